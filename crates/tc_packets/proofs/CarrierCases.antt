@@ -5,7 +5,7 @@ use Rattle.std.specs.Prelude.{None}
 use Rattle.tc_octets.specs.TmFrames.{TmParts}
 use Rattle.tc_packets.specs.Carriers.{fill_of, filled, pointer_in, starts}
 use Rattle.tc_packets.specs.CarrierLaws.{run}
-use Rattle.tc_packets.specs.Receivers.{begun, carried, continued, counted, cut, fresh, gap, is_skipped, looked_at, packet, received, skipped}
+use Rattle.tc_packets.specs.Receivers.{begun, carried, continued, counted, cut, fresh, gap, is_skipped, looked_at, packet, received}
 
 abbrev frame : ℕ → ℕ → List ℕ → TmParts
 frame count status content = record { vcid = 0; master_count = count; channel_count = count; status = status; content = content; word = None }

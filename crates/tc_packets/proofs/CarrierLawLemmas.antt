@@ -1,6 +1,6 @@
 -- Packets that are sent over frames come back.
-use Rattle.std.proofs.Common.{◌≡◌, ℕ, zero, suc, ◌+◌, ◌-◌, ◌*◌, ◌/◌, ◌%◌, ◌^◌, ◌<◌, ◌≤◌, Bool, true, false, List, [], ◌∷◌, ◌++◌, map, take, drop, length, replicate, Some, refl, sym, ap, subst, ◌∙◌, inl, inr, arith, append_assoc}
-use Rattle.std.specs.Prelude.{◌==◌, nat_lt, if◌then◌else◌}
+use Rattle.std.proofs.Common.{◌≡◌, ℕ, zero, suc, ◌+◌, ◌-◌, ◌*◌, ◌/◌, ◌%◌, ◌^◌, ◌<◌, ◌≤◌, true, false, List, [], ◌∷◌, ◌++◌, map, take, drop, length, refl, sym, ap, subst, ◌∙◌, inl, inr, arith}
+use Rattle.std.specs.Prelude.{◌==◌, nat_lt}
 use Rattle.std.specs.List.{AllByRecursion, concat, range_with_len}
 use Rattle.std.proofs.lemmas.Bool.{cases_eq, cases_lt, cond-false, cond-true, cond_both, eq-eqb, le-ltb, lt-ltb, ne_eqb}
 use Rattle.std.proofs.lemmas.List.{append-nil, drop-drop, length-append, length-drop, length-replicate, map-append, nil_from_length}
@@ -10,7 +10,7 @@ use Rattle.tc_octets.specs.TmFrames.{TmParts}
 use Rattle.tc_octets.specs.declared.profiles.Profile.{Profile}
 use Rattle.tc_packets.specs.Carriers.{carrying, data_length, fill_of, filled, frames_of, idle_frame, idle_length, idle_packet, pointer_in, starts}
 use Rattle.tc_packets.specs.CarrierLaws.{Awaits, ComesBack, IsPacket, PacketsComeBack, PartsStayShort, ReportsComeBack, is_idle, reports_in, run}
-use Rattle.tc_packets.specs.Receivers.{Given, Received, Receiver, and_then, counted, dropped, gap, is_next, looked_at, marked, packet, quiet, received, received_to}
+use Rattle.tc_packets.specs.Receivers.{Received, Receiver, and_then, counted, dropped, gap, is_next, looked_at, marked, packet, quiet, received, received_to}
 use Rattle.tc_packets.specs.declared.tm_senders.TmSender.{TmSender}
 use Rattle.tc_packets.proofs.ReceiverLemmas.{received_small}
 use Rattle.tc_packets.proofs.SenderLemmas.{concat_append, data_bounds}

@@ -1,13 +1,13 @@
 -- The packets that begin one after the other in octets.
-use Rattle.std.proofs.Common.{◌≡◌, ℕ, zero, suc, ◌+◌, ◌-◌, ◌/◌, ◌%◌, ◌^◌, ◌<◌, ◌≤◌, List, [], ◌∷◌, ◌++◌, take, drop, length, get_or, refl, sym, ap, subst, ◌∙◌, arith, append_assoc, inl, inr}
-use Rattle.std.specs.Prelude.{Bool, true, false, map, not, ◌&&◌, ◌||◌, ◌==◌, nat_le, nat_lt, if◌then◌else◌, Option}
-use borrow.Author.Tests.{leb-true, ltb-false, ltb-true}
-use Rattle.std.proofs.lemmas.Bool.{and_cases, and_parts, cond-true, cond-false, cond_both, cases_lt, le-leb, le-ltb, lt-leb, lt-ltb, or_parts, true≢false}
+use Rattle.std.proofs.Common.{◌≡◌, ℕ, zero, suc, ◌+◌, ◌-◌, ◌/◌, ◌%◌, ◌^◌, ◌<◌, ◌≤◌, List, [], ◌∷◌, ◌++◌, take, drop, length, get_or, refl, sym, ap, ◌∙◌, arith, append_assoc, inl, inr}
+use Rattle.std.specs.Prelude.{Bool, true, false, map, not, ◌&&◌, ◌==◌, nat_le, nat_lt, if◌then◌else◌, Option}
+use borrow.Author.Tests.{ltb-false, ltb-true}
+use Rattle.std.proofs.lemmas.Bool.{and_cases, and_parts, cond-true, cond-false, cond_both, cases_lt, le-leb, lt-leb, lt-ltb, or_parts, true≢false}
 use Rattle.std.proofs.lemmas.List.{append-nil, drop-drop, drop_all, length-drop, map_push}
 use Rattle.tc_octets.specs.TmFrames.{TmParts}
 use Rattle.tc_packets.specs.declared.packet_readers.Item.{Item}
 use Rattle.tc_packets.specs.declared.packet_readers.Item.TheVariants as item
-use Rattle.tc_packets.specs.Receivers.{Given, IsPart, Received, Receiver, and_then, begun, carried, continued, counted, cut, dropped, ended, from_start, given_of, gap, is_next, is_skipped, looked_at, marked, packet, packet_length, quiet, received, skipped}
+use Rattle.tc_packets.specs.Receivers.{IsPart, Received, Receiver, and_then, begun, carried, continued, counted, cut, dropped, ended, from_start, given_of, gap, is_next, is_skipped, looked_at, marked, packet, packet_length, quiet, received, skipped}
 
 passed : (n : ℕ) (octets : List ℕ) → begun n octets ≡ begun 0 (drop n octets)
 unfolding begun

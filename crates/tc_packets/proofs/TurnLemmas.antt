@@ -1,14 +1,14 @@
 -- What one frame of a sender brings a receiver that follows it.
-use Rattle.std.proofs.Common.{◌≡◌, ℕ, zero, suc, ◌+◌, ◌-◌, ◌*◌, ◌/◌, ◌%◌, ◌^◌, ◌<◌, ◌≤◌, Bool, true, false, List, [], ◌∷◌, ◌++◌, map, take, drop, length, get_or, refl, sym, ap, subst, ◌∙◌, inl, inr, arith, append_assoc}
+use Rattle.std.proofs.Common.{◌≡◌, ℕ, ◌+◌, ◌-◌, ◌*◌, ◌/◌, ◌%◌, ◌^◌, ◌<◌, ◌≤◌, Bool, true, false, List, [], ◌∷◌, ◌++◌, map, take, drop, length, get_or, refl, sym, ap, subst, ◌∙◌, inl, inr, arith, append_assoc}
 use Rattle.std.specs.Prelude.{◌==◌, ◌&&◌, ◌||◌, not, nat_le, nat_lt, if◌then◌else◌}
 use Rattle.std.specs.List.{AllByRecursion, concat}
 use Rattle.std.proofs.Math.Seq.{take-add}
-use Rattle.std.proofs.lemmas.Bool.{and_from, and_left, and_right, cases_eq, cases_lt, cond-false, cond-true, eq-eqb, le-leb, le-ltb, lt-leb, lt-ltb, ne_eqb, not_from_true, or_from}
-use Rattle.std.proofs.lemmas.List.{append-nil, drop-append-le, drop-drop, drop_all, drop_at, get_or-take, get_or_append_left, length-append, length-drop, length-take-le, map-append, nil_from_length, take-append-le, take_all, take_at, take-append-drop}
+use Rattle.std.proofs.lemmas.Bool.{and_from, and_left, and_right, cases_lt, cond-false, cond-true, eq-eqb, le-ltb, lt-leb, lt-ltb, ne_eqb, not_from_true, or_from}
+use Rattle.std.proofs.lemmas.List.{drop-append-le, drop-drop, drop_at, get_or-take, get_or_append_left, length-append, length-drop, length-take-le, nil_from_length, take-append-le, take_at, take-append-drop}
 use Rattle.tc_packets.specs.Carriers.{pointer_in, starts}
 use Rattle.tc_packets.specs.CarrierLaws.{IsPacket}
 use Rattle.tc_packets.specs.LossLaws.{all_came, cons_if, that_came}
-use Rattle.tc_packets.specs.Receivers.{Given, Received, and_then, begun, carried, continued, dropped, ended, is_skipped, looked_at, marked, packet, packet_length, quiet, skipped}
+use Rattle.tc_packets.specs.Receivers.{Received, and_then, begun, carried, continued, dropped, ended, is_skipped, looked_at, marked, packet, packet_length, quiet, skipped}
 use Rattle.tc_packets.proofs.CameLemmas.{all_inside, came_on, chosen, cons_came, cons_lost, expect_of, expect_within, live, lost_on, none_inside}
 use Rattle.tc_packets.proofs.ReceiverLemmas.{begun_nil, begun_short, begun_whole}
 use Rattle.tc_packets.proofs.SenderLemmas.{is_before, is_behind, is_inside, pointer_first, pointer_next}

@@ -4,7 +4,7 @@ use Rattle.std.specs.List.{AllByRecursion}
 use Rattle.tc_octets.specs.Bits.{pair_at}
 use Rattle.tc_octets.specs.TmFrames.{TmParts}
 use Rattle.tc_octets.specs.declared.profiles.Profile.{Profile}
-use Rattle.tc_packets.specs.Carriers.{data_length, filled, frames_of, later}
+use Rattle.tc_packets.specs.Carriers.{data_length, filled, frames_of}
 use Rattle.tc_packets.specs.Receivers.{Given, IsPart, Receiver, cut, gap, is_next, packet, packet_length, received, received_to, skipped}
 use Rattle.tc_packets.specs.declared.tm_senders.TmSender.{TmSender}
 

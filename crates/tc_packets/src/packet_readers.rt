@@ -1,7 +1,7 @@
 //! The receiver of packets over telemetry frames of one virtual channel.
-ghost use Rattle.std.specs.Prelude.{◌≡◌, ◌++◌, ◌∷◌, [], ◌<◌, ◌≤◌, ◌+◌, List, ℕ, Some, nat_lt, true, OnErr, OnOk, IfOk, length, map};
+ghost use Rattle.std.specs.Prelude.{◌≡◌, ◌++◌, ◌∷◌, [], ◌<◌, ◌≤◌, nat_lt, OnErr, OnOk, IfOk, length, map};
 ghost use Rattle.tc_octets.specs.TmFrames.{tm_parts};
-ghost use Rattle.tc_packets.specs.Receivers.{Appends, Received, begun, carried, continued, counted, dropped, ended, fresh, given_of, is_next, is_skipped, looked_at, packet, packet_length, received, received_to};
+ghost use Rattle.tc_packets.specs.Receivers.{Appends, begun, carried, continued, dropped, ended, fresh, given_of, is_next, is_skipped, looked_at, packet, packet_length, received, received_to};
 
 use std::alloc::{AllocError, Allocator};
 use std::marker::Model;

@@ -1,9 +1,8 @@
 //! The sender of packets over telemetry frames of one virtual channel.
-ghost use Rattle.std.specs.Prelude.{◌≡◌, ◌++◌, ◌∷◌, [], ◌<◌, ◌≤◌, ◌+◌, ◌*◌, ◌-◌, ◌%◌, ◌^◌, ◌≢◌, List, ℕ, OnErr, OnOk, IfOk, length, map, take, drop, replicate};
+ghost use Rattle.std.specs.Prelude.{◌≡◌, ◌++◌, [], ◌<◌, ◌≤◌, ◌+◌, ◌%◌, ◌^◌, OnErr, OnOk, IfOk, length, map};
 ghost use Rattle.std.specs.List.{concat};
-ghost use Rattle.tc_octets.specs.TcFrames.{check_length};
 ghost use Rattle.tc_octets.specs.TmFrames.{tm_frame_of};
-ghost use Rattle.tc_packets.specs.Carriers.{carriers, data_length, fill_of, filled, frame_after, frames_of, idle_frame, idle_length, idle_packet, later, octets_of, pointer_in, starts};
+ghost use Rattle.tc_packets.specs.Carriers.{carriers, data_length, fill_of, filled, frame_after, frames_of, idle_frame, idle_packet, later, octets_of, pointer_in, starts};
 
 use std::alloc::{AllocError, Allocator};
 use tc_octets::{Profile, TmFrame, tm_frame};

@@ -1,9 +1,9 @@
 -- Each turn takes a packet, or ends.
-use Rattle.std.proofs.Common.{◌≡◌, ℕ, ◌-◌, ◌^◌, ◌<◌, ◌≤◌, List, drop, take, length, get_or, sym, ap, ◌∙◌, arith}
+use Rattle.std.proofs.Common.{ℕ, ◌^◌, ◌<◌, ◌≤◌, List, drop, length, get_or, sym, ap, ◌∙◌, arith}
 use Rattle.std.specs.Prelude.{nat_lt}
 use Rattle.std.proofs.lemmas.List.{get_or-drop, take_rest}
-use Rattle.tc_packets.specs.Receivers.{packet_length, packet, given_of}
-use Rattle.tc_packets.proofs.ReceiverLemmas.{Began, begins_cut, begins_end, begins_short, begins_whole}
+use Rattle.tc_packets.specs.Receivers.{packet_length}
+use Rattle.tc_packets.proofs.ReceiverLemmas.{begins_cut, begins_end, begins_short, begins_whole}
 use Rattle.tc_packets.proofs.packet_readers.begin.Goals as goal
 
 pub returns-then-rest-ge32 : goal.returns-then-rest-ge32

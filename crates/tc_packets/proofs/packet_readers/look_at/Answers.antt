@@ -1,5 +1,5 @@
 -- A pointer is within the data field, or says that there is no start.
-use Rattle.std.proofs.Common.{◌≡◌, ◌%◌, ◌^◌, ◌<◌, ◌≤◌, length, sym, ◌∙◌, arith}
+use Rattle.std.proofs.Common.{length, sym, ◌∙◌, arith}
 use Rattle.tc_packets.proofs.ReceiverLemmas.{not_skipped}
 use Rattle.tc_packets.proofs.packet_readers.look_at.Goals as goal
 

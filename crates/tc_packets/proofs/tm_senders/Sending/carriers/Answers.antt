@@ -1,5 +1,5 @@
 -- Each turn adds its frame.
-use Rattle.std.proofs.Common.{◌≡◌, ℕ, ap, ◌∙◌}
+use Rattle.std.proofs.Common.{ap, ◌∙◌}
 use Rattle.tc_octets.specs.TmFrames.{TmParts, tm_frame_of}
 use Rattle.tc_packets.specs.Carriers.{carrying}
 use Rattle.tc_packets.proofs.SenderLemmas.{frames_more, turn_is}
