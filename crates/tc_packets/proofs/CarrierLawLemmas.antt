@@ -14,7 +14,8 @@ use Rattle.tc_packets.specs.Receivers.{Received, Receiver, and_then, counted, dr
 use Rattle.tc_packets.specs.declared.tm_senders.TmSender.{TmSender}
 use Rattle.tc_packets.proofs.ReceiverLemmas.{received_small}
 use Rattle.tc_packets.proofs.SenderLemmas.{concat_append, data_bounds}
-use Rattle.tc_packets.proofs.TurnLemmas.{IsStanding, Standing, Turns, between, looked_idle, packet_some, pending, pending_none, standing_between, turns}
+use Rattle.tc_packets.proofs.CutLemmas.{IsStanding, Standing, between, looked_idle, packet_some, pending, pending_none, standing_between}
+use Rattle.tc_packets.proofs.TurnLemmas.{Turns, turns}
 
 -- ---- packets
 

@@ -14,7 +14,8 @@ use Rattle.tc_packets.specs.Receivers.{Given, Received, Receiver, and_then, coun
 use Rattle.tc_packets.specs.declared.tm_senders.TmSender.{TmSender}
 use Rattle.tc_packets.proofs.CameLemmas.{chosen, chosen_all, chosen_none, expect_of, live}
 use Rattle.tc_packets.proofs.SenderLemmas.{data_bounds}
-use Rattle.tc_packets.proofs.TurnLemmas.{Standing, Turns, between, expect, looked_idle}
+use Rattle.tc_packets.proofs.CutLemmas.{Standing, between, expect, looked_idle}
+use Rattle.tc_packets.proofs.TurnLemmas.{Turns}
 use Rattle.tc_packets.proofs.CarrierLawLemmas.{Stands, fill_none, fills, none_left, stands_first, stands_on, turn_at}
 
 -- ---- the packets among what was given

@@ -250,7 +250,7 @@ impl<A: Allocator + Copy + Drop> PacketReader<A> {
         }
     }
 
-    /// Takes the next frame of the channel, and adds what it brings: packets and marks, in order. Fails where memory is refused; nothing is added then, and
+    /// Takes the next frame of the channel, and adds what it brings: packets and marks, in order. Fails if memory is refused; nothing is added then, and
     /// the receiver is as it was, so the frame can be given again.
     pub fn frame(&mut self, frame: &TmFrame, out: &mut Vec<Item<A>, A>) -> Result<(), AllocError>
         ensures given { OnOk result (map given_of out.new.items ≡ map given_of out.old.items ++ (received self.old (tm_parts frame.now)).given) }

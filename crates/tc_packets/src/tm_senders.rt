@@ -249,7 +249,7 @@ impl Sending<'_> {
 
 impl TmSender {
     /// The frames that carry these packets, in order, each with this control word. An idle packet comes after them if they do not fill the last frame, and if
-    /// there are none it is one frame of idle data. Fails where memory is refused: both counts are then as they were.
+    /// there are none it is one frame of idle data. Fails if memory is refused: both counts are then as they were.
     pub fn send<A: Allocator + Copy + Drop>(
         &mut self,
         alloc: A,
