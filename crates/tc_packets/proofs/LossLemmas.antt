@@ -9,7 +9,7 @@ use Rattle.tc_octets.specs.TmFrames.{TmParts}
 use Rattle.tc_octets.specs.declared.profiles.Profile.{Profile}
 use Rattle.tc_packets.specs.Carriers.{carrying, data_length, filled, frames_of, idle_frame, pointer_in, starts}
 use Rattle.tc_packets.specs.CarrierLaws.{IsPacket, run}
-use Rattle.tc_packets.specs.LossLaws.{FewLost, WholePacketsCome, kept, packets_in, that_came}
+use Rattle.tc_packets.specs.LossLaws.{Behind, FewLost, LossesShow, WholePacketsCome, at_rest, kept, lost_after, missing, packets_in, that_came}
 use Rattle.tc_packets.specs.Receivers.{Given, Received, Receiver, and_then, counted, cut, dropped, gap, is_next, looked_at, marked, packet, quiet, received, received_to, skipped}
 use Rattle.tc_packets.specs.declared.tm_senders.TmSender.{TmSender}
 use Rattle.tc_packets.proofs.CameLemmas.{chosen, chosen_all, chosen_none, expect_of, live}
@@ -53,6 +53,10 @@ dropped_part (octet ∷ part) = refl
 dropped_silent : (part : List ℕ) → packets_in (dropped part).given ≡ []
 dropped_silent [] = refl
 dropped_silent (octet ∷ part) = refl
+
+live_none : (ok : Bool) → live ok [] ≡ []
+live_none true = refl
+live_none false = refl
 
 -- before a frame with this count, where so many were lost just before
 data Before (receiver : Receiver) (count lost : ℕ) (ok : Bool) (part : List ℕ) : Type 0 where
@@ -172,87 +176,147 @@ expect_none : (size : ℕ) (came : List Bool) (ok : Bool) (at : ℕ) (s : Standi
 expect_none size came ok at s e f =
     ap (λ l. expect_of size came ok at s.part l s.rest) e ∙ ap (λ l. that_came size came at l) f
 
+-- what a receiver knows at the end of a list
+behind_of : (receiver : Receiver) (count lost : ℕ) (ok : Bool) (part : List ℕ) → part ≡ [] → Before receiver count lost ok part → Behind receiver count lost
+behind_of receiver count lost ok part e (follows none is expects) = at_rest (is ∙ ap (live ok) e ∙ live_none ok)
+behind_of receiver count lost ok part e (empty is none) = at_rest is
+behind_of receiver count lost ok part e (stale expected some no_more expects small late) = missing expected some expects small late
+
+before_of : (receiver : Receiver) (count lost : ℕ) → Behind receiver count lost → Before receiver count lost false []
+before_of receiver count lost (at_rest is) = empty is refl
+before_of receiver count lost (missing expected some expects small late) = stale expected some refl expects small late
+
+record Losses (receiver : Receiver) (flags : List Bool) (frames : List TmParts) (packets : List (List ℕ)) (count lost : ℕ) : Type 0 where
+  packets_are : packets_in (run receiver (kept flags frames)).given ≡ packets
+  ready : Behind (run receiver (kept flags frames)).receiver count (lost_after lost flags)
+
 losses : (profile : Profile) (sender : TmSender) (word : ℕ) (all : List (List ℕ)) (came flags : List Bool) (i lost : ℕ) (ok : Bool) (s : Standing)
-    (receiver : Receiver) → Stands profile all (length flags) i s → drop i came ≡ flags → FewLost lost flags → lost < 2 ^ 8
+    (receiver : Receiver) → Stands profile all (length flags) i s → drop i came ≡ flags → FewLost lost flags
     → Before receiver (sender.channel_count + i) lost ok s.part
-    → packets_in (run receiver (kept flags (map (carrying profile sender word (concat all) (starts 0 all)) (range_with_len i (length flags))))).given
-    ≡ expect (data_length profile) came ok (i * data_length profile) s
-losses profile sender word all came [] i lost ok s receiver f e few small before =
+    → Losses receiver flags (map (carrying profile sender word (concat all) (starts 0 all)) (range_with_len i (length flags)))
+    (expect (data_length profile) came ok (i * data_length profile) s) (sender.channel_count + i + length flags) lost
+losses profile sender word all came [] i lost ok s receiver f e few before =
     let done = none_left profile all i s f in
-    sym (expect_none (data_length profile) came ok (i * data_length profile) s done.todo done.rest)
-losses profile sender word all came (true ∷ flags) i lost ok s receiver f e few small before =
+    let count : sender.channel_count + i ≡ sender.channel_count + i + length {A = Bool} [] = omega arith in
+    record {
+      packets_are = sym (expect_none (data_length profile) came ok (i * data_length profile) s done.todo done.rest);
+      ready = subst (λ (k : ℕ). Behind receiver k lost) count (behind_of receiver (sender.channel_count + i) lost ok s.part done.part before);
+    }
+losses profile sender word all came (true ∷ flags) i lost ok s receiver f e few before =
     let size : ℕ = data_length profile in
     let t = turn_at profile all (length flags) i s f in
     let frame : TmParts = carrying profile sender word (concat all) (starts 0 all) i in
     let frames : List TmParts = kept flags (map (carrying profile sender word (concat all) (starts 0 all)) (range_with_len (i + 1) (length flags))) in
     let brings =
-    frame_comes profile sender word all (suc (length flags)) i s receiver ok f t (arrives receiver (sender.channel_count + i) lost ok s.part small before) in
+    frame_comes profile sender word all (suc (length flags)) i s receiver ok f t (arrives receiver (sender.channel_count + i) lost ok s.part few.0 before) in
     let counts : ((sender.channel_count + i) % 2 ^ 8 + 1) % 2 ^ 8 ≡ (sender.channel_count + (i + 1)) % 2 ^ 8 = omega arith in
+    let count : sender.channel_count + (i + 1) + length flags ≡ sender.channel_count + i + suc (length flags) = omega arith in
     let turn : i * size + size ≡ (i + 1) * size = omega arith in
     let more =
     losses profile sender word all came flags (i + 1) 0 (t.over || ok) t.next (received_to receiver frame) (stands_on profile all (length flags) i s f t)
-    (flags_on came i true flags e) few (omega arith) (follows refl brings.part_is (ap (λ (n : ℕ). Some n) counts)) in
-    packets_append (received receiver frame).given (run (received_to receiver frame) frames).given
-    ∙ ap (λ l. l ++ packets_in (run (received_to receiver frame) frames).given) brings.packets_are
-    ∙ ap (λ l. (chosen ok t.ended ++ t.inner) ++ l) more
-    ∙ ap (λ k. (chosen ok t.ended ++ t.inner) ++ expect size came (t.over || ok) k t.next) (sym turn)
-    ∙ sym (t.came came i ok refl (flag_at came i true flags e))
-losses profile sender word all came (false ∷ flags) i lost ok s receiver f e few small before =
+    (flags_on came i true flags e) few.1 (follows refl brings.part_is (ap (λ (n : ℕ). Some n) counts)) in
+    record {
+      packets_are =
+          packets_append (received receiver frame).given (run (received_to receiver frame) frames).given
+          ∙ ap (λ l. l ++ packets_in (run (received_to receiver frame) frames).given) brings.packets_are
+          ∙ ap (λ l. (chosen ok t.ended ++ t.inner) ++ l) more.packets_are
+          ∙ ap (λ k. (chosen ok t.ended ++ t.inner) ++ expect size came (t.over || ok) k t.next) (sym turn)
+          ∙ sym (t.came came i ok refl (flag_at came i true flags e));
+      ready = subst (λ (k : ℕ). Behind (run (received_to receiver frame) frames).receiver k (lost_after 0 flags)) count more.ready;
+    }
+losses profile sender word all came (false ∷ flags) i lost ok s receiver f e few before =
     let size : ℕ = data_length profile in
     let t = turn_at profile all (length flags) i s f in
+    let frames : List TmParts = kept flags (map (carrying profile sender word (concat all) (starts 0 all)) (range_with_len (i + 1) (length flags))) in
     let turn : i * size + size ≡ (i + 1) * size = omega arith in
-    let count : sender.channel_count + i + 1 ≡ sender.channel_count + (i + 1) = omega arith in
+    let next_count : sender.channel_count + i + 1 ≡ sender.channel_count + (i + 1) = omega arith in
+    let count : sender.channel_count + (i + 1) + length flags ≡ sender.channel_count + i + suc (length flags) = omega arith in
+    let more =
     losses profile sender word all came flags (i + 1) (lost + 1) false t.next receiver (stands_on profile all (length flags) i s f t)
-    (flags_on came i false flags e) few.1 few.0
-    (subst (λ (k : ℕ). Before receiver k (lost + 1) false t.next.part) count (lost_one receiver (sender.channel_count + i) lost ok s.part t.next.part before))
-    ∙ ap (λ k. expect size came false k t.next) (sym turn)
-    ∙ sym (t.lost came i ok refl (flag_at came i false flags e))
+    (flags_on came i false flags e) few
+    (subst (λ (k : ℕ). Before receiver k (lost + 1) false t.next.part) next_count
+    (lost_one receiver (sender.channel_count + i) lost ok s.part t.next.part before)) in
+    record {
+      packets_are =
+          more.packets_are
+          ∙ ap (λ k. expect size came false k t.next) (sym turn)
+          ∙ sym (t.lost came i ok refl (flag_at came i false flags e));
+      ready = subst (λ (k : ℕ). Behind (run receiver frames).receiver k (lost_after (lost + 1) flags)) count more.ready;
+    }
 
 -- ---- a list of packets
 
-losses_filled : (profile : Profile) (sender : TmSender) (word : ℕ) (first : List ℕ) (packets : List (List ℕ)) (receiver : Receiver) (came : List Bool)
-    → AllByRecursion IsPacket (first ∷ packets) → receiver.part ≡ [] → length came ≡ length (frames_of profile sender word (first ∷ packets)) → FewLost 0 came
-    → packets_in (run receiver (kept came (frames_of profile sender word (first ∷ packets)))).given
-    ≡ that_came (data_length profile) came 0 (filled (data_length profile) (first ∷ packets))
-losses_filled profile sender word first packets receiver came all none long few =
+losses_filled : (profile : Profile) (sender : TmSender) (word : ℕ) (first : List ℕ) (packets : List (List ℕ)) (receiver : Receiver) (lost : ℕ) (came : List Bool)
+    → AllByRecursion IsPacket (first ∷ packets) → Behind receiver sender.channel_count lost
+    → length came ≡ length (frames_of profile sender word (first ∷ packets)) → FewLost lost came
+    → LossesShow profile sender word (first ∷ packets) receiver lost came
+losses_filled profile sender word first packets receiver lost came all behind long few =
     let size : ℕ = data_length profile in
     let sent : List (List ℕ) = filled size (first ∷ packets) in
     let turn : ℕ → TmParts = carrying profile sender word (concat sent) (starts 0 sent) in
     let filled_up = fills profile (first ∷ packets) all in
-    let count : length came ≡ length (concat sent) / size = long ∙ length-map-range_with_len turn 0 (length (concat sent) / size) in
+    let turns : length (frames_of profile sender word (first ∷ packets)) ≡ length (concat sent) / size = length-map-range_with_len turn 0 (length (concat sent) / size) in
+    let count : length came ≡ length (concat sent) / size = long ∙ turns in
     let start : 0 * size ≡ 0 = omega arith in
-    ap (λ k. packets_in (run receiver (kept came (map turn (range_with_len 0 k)))).given) (sym count)
-    ∙ losses profile sender word sent came came 0 0 true (between sent) receiver
-    (stands_first profile sent (length came) filled_up.whole (filled_up.left ∙ ap (λ k. k * size) (sym count))) refl few (omega arith) (empty none refl)
-    ∙ ap (λ k. that_came size came k sent) start
+    let first_count : sender.channel_count ≡ sender.channel_count + 0 = omega arith in
+    let last_count : sender.channel_count + 0 + length came ≡ sender.channel_count + length (frames_of profile sender word (first ∷ packets)) = omega arith in
+    let shown =
+    losses profile sender word sent came came 0 lost false (between sent) receiver
+    (stands_first profile sent (length came) filled_up.whole (filled_up.left ∙ ap (λ k. k * size) (sym count))) refl few
+    (subst (λ (k : ℕ). Before receiver k lost false []) first_count (before_of receiver sender.channel_count lost behind)) in
+    record {
+      packets_are =
+          ap (λ k. packets_in (run receiver (kept came (map turn (range_with_len 0 k)))).given) (sym count)
+          ∙ shown.packets_are
+          ∙ ap (λ k. that_came size came k sent) start;
+      ready =
+          subst (λ (k : ℕ). Behind (run receiver (kept came (map turn (range_with_len 0 k)))).receiver (sender.channel_count + length (frames_of profile sender word (first ∷ packets))) (lost_after lost came)) count
+          (subst (λ (k : ℕ). Behind (run receiver (kept came (map turn (range_with_len 0 (length came))))).receiver k (lost_after lost came)) last_count shown.ready);
+    }
 
 kept_none : (flags : List Bool) → kept flags [] ≡ []
 kept_none [] = refl
 kept_none (b ∷ flags) = refl
 
-idle_silent : (profile : Profile) (sender : TmSender) (word : ℕ) (receiver : Receiver) → receiver.part ≡ []
-    → packets_in (received receiver (idle_frame profile sender word)).given ≡ []
-idle_silent profile sender word receiver none =
+idle_brings : (profile : Profile) (sender : TmSender) (word : ℕ) (receiver : Receiver) (lost : ℕ) → lost < 2 ^ 8
+    → Behind receiver sender.channel_count lost → Brings receiver (idle_frame profile sender word) [] []
+idle_brings profile sender word receiver lost few behind =
     let frame : TmParts = idle_frame profile sender word in
-    let a = arrives_empty receiver (sender.channel_count + 0) none in
-    let brings = brings_by receiver frame [] [] [] a.in_progress a.silent (looked_idle frame.content []) in
-    brings.packets_are
+    let count : sender.channel_count ≡ sender.channel_count + 0 = omega arith in
+    let a =
+    arrives receiver (sender.channel_count + 0) lost false [] few
+    (subst (λ (k : ℕ). Before receiver k lost false []) count (before_of receiver sender.channel_count lost behind)) in
+    brings_by receiver frame [] [] [] a.in_progress a.silent (looked_idle frame.content [])
 
-losses_idle : (profile : Profile) (sender : TmSender) (word : ℕ) (receiver : Receiver) (came : List Bool) → receiver.part ≡ []
-    → packets_in (run receiver (kept came (frames_of profile sender word []))).given ≡ []
-losses_idle profile sender word receiver [] none = refl
-losses_idle profile sender word receiver (true ∷ flags) none =
-    let frame : TmParts = idle_frame profile sender word in
-    ap (λ l. packets_in ((received receiver frame).given ++ (run (received_to receiver frame) l).given)) (kept_none flags)
-    ∙ packets_append (received receiver frame).given []
-    ∙ ap (λ l. l ++ []) (idle_silent profile sender word receiver none)
-losses_idle profile sender word receiver (false ∷ flags) none = ap (λ l. packets_in (run receiver l).given) (kept_none flags)
-
-pub whole_packets_come : WholePacketsCome
-whole_packets_come profile sender word [] receiver came all none long few =
+losses_idle : (profile : Profile) (sender : TmSender) (word : ℕ) (receiver : Receiver) (lost : ℕ) (b : Bool)
+    → Behind receiver sender.channel_count lost → FewLost lost (b ∷ []) → LossesShow profile sender word [] receiver lost (b ∷ [])
+losses_idle profile sender word receiver lost true behind few =
     let size : ℕ = data_length profile in
     let bounds = data_bounds profile in
     let over : 0 % size ≡ 0 = omega arith in
-    losses_idle profile sender word receiver came none ∙ ap (λ l. that_came size came 0 l) (sym (fill_none size 0 over))
-whole_packets_come profile sender word (first ∷ packets) receiver came all none long few =
-    losses_filled profile sender word first packets receiver came all none long few
+    let frame : TmParts = idle_frame profile sender word in
+    let brings = idle_brings profile sender word receiver lost few.0 behind in
+    record {
+      packets_are =
+          packets_append (received receiver frame).given []
+          ∙ ap (λ l. l ++ []) brings.packets_are
+          ∙ ap (λ l. that_came size (true ∷ []) 0 l) (sym (fill_none size 0 over));
+      ready = at_rest brings.part_is;
+    }
+losses_idle profile sender word receiver lost false behind few =
+    let size : ℕ = data_length profile in
+    let bounds = data_bounds profile in
+    let over : 0 % size ≡ 0 = omega arith in
+    record {
+      packets_are = ap (λ l. that_came size (false ∷ []) 0 l) (sym (fill_none size 0 over));
+      ready =
+          behind_of receiver (sender.channel_count + 1) (lost + 1) false [] refl
+          (lost_one receiver sender.channel_count lost false [] [] (before_of receiver sender.channel_count lost behind));
+    }
+
+pub whole_packets_come : WholePacketsCome
+whole_packets_come profile sender word [] receiver lost [] all behind long few = absurd (omega arith)
+whole_packets_come profile sender word [] receiver lost (b ∷ []) all behind long few = losses_idle profile sender word receiver lost b behind few
+whole_packets_come profile sender word [] receiver lost (b ∷ c ∷ more) all behind long few = absurd (omega arith)
+whole_packets_come profile sender word (first ∷ packets) receiver lost came all behind long few =
+    losses_filled profile sender word first packets receiver lost came all behind long few

@@ -1,5 +1,5 @@
 -- What comes of packets if whole frames are lost.
-use Rattle.std.specs.Prelude.{◌≡◌, ℕ, ◌+◌, ◌/◌, ◌^◌, ◌<◌, if◌then◌else◌, Bool, true, false, List, [], ◌∷◌, length, get_or, ⊤}
+use Rattle.std.specs.Prelude.{◌≡◌, ℕ, ◌+◌, ◌/◌, ◌%◌, ◌^◌, ◌<◌, Some, if◌then◌else◌, Bool, true, false, List, [], ◌∷◌, length, get_or}
 use Rattle.std.specs.List.{AllByRecursion, list_all, range_with_len}
 use Rattle.tc_octets.specs.TmFrames.{TmParts}
 use Rattle.tc_octets.specs.declared.profiles.Profile.{Profile}
@@ -16,9 +16,21 @@ kept (came ∷ more) (frame ∷ frames) = if came then frame ∷ kept more frame
 
 -- Fewer than 256 frames are lost in a row, if so many were lost just before.
 abbrev pub FewLost : ℕ → List Bool → Type 0
-FewLost lost [] = ⊤
-FewLost lost (true ∷ more) = FewLost 0 more
-FewLost lost (false ∷ more) = (lost + 1 < 2 ^ 8) × FewLost (lost + 1) more
+FewLost lost [] = lost < 2 ^ 8
+FewLost lost (true ∷ more) = (lost < 2 ^ 8) × FewLost 0 more
+FewLost lost (false ∷ more) = FewLost (lost + 1) more
+
+-- how many frames were lost last, if so many were lost just before
+abbrev pub lost_after : ℕ → List Bool → ℕ
+lost_after lost [] = lost
+lost_after lost (true ∷ more) = lost_after 0 more
+lost_after lost (false ∷ more) = lost_after (lost + 1) more
+
+-- A receiver before the frame with this count, if so many frames were lost just before: no packet is in progress, or it expects the first of the lost ones.
+pub data Behind (receiver : Receiver) (count lost : ℕ) : Type 0 where
+  at_rest : receiver.part ≡ [] → Behind receiver count lost
+  missing : (expected : ℕ) → 0 < lost → receiver.expected ≡ Some expected → expected < 2 ^ 8 → (expected + lost) % 2 ^ 8 ≡ count % 2 ^ 8
+      → Behind receiver count lost
 
 -- whether so many octets from a place on lie in frames that came, each of which has `size` octets
 abbrev pub all_came : ℕ → List Bool → ℕ → ℕ → Bool
@@ -40,11 +52,17 @@ packets_in (gap ∷ more) = packets_in more
 packets_in (cut ∷ more) = packets_in more
 packets_in (skipped ∷ more) = packets_in more
 
--- If whole frames of a list are lost, no 256 or more in a row, exactly those packets come all of whose octets lie in frames that came, in order. The receiver
--- has no packet in progress before, and may expect any count.
+-- exactly those packets came all of whose octets lie in frames that came, in order; and the receiver is ready for the next list
+pub record LossesShow (profile : Profile) (sender : TmSender) (word : ℕ) (packets : List (List ℕ)) (receiver : Receiver) (lost : ℕ) (came : List Bool) : Type 0 where
+  pub packets_are : packets_in (run receiver (kept came (frames_of profile sender word packets))).given
+      ≡ that_came (data_length profile) came 0 (filled (data_length profile) packets)
+  pub ready : Behind (run receiver (kept came (frames_of profile sender word packets))).receiver
+      (sender.channel_count + length (frames_of profile sender word packets)) (lost_after lost came)
+
+-- If whole frames are lost, no 256 or more in a row, exactly those packets come all of whose octets lie in frames that came. So it is of one list after the
+-- other: each leaves the receiver as the next one may find it.
 abbrev pub WholePacketsCome : Type 0
 WholePacketsCome =
-    (profile : Profile) (sender : TmSender) (word : ℕ) (packets : List (List ℕ)) (receiver : Receiver) (came : List Bool) → AllByRecursion IsPacket packets
-    → receiver.part ≡ [] → length came ≡ length (frames_of profile sender word packets) → FewLost 0 came
-    → packets_in (run receiver (kept came (frames_of profile sender word packets))).given
-    ≡ that_came (data_length profile) came 0 (filled (data_length profile) packets)
+    (profile : Profile) (sender : TmSender) (word : ℕ) (packets : List (List ℕ)) (receiver : Receiver) (lost : ℕ) (came : List Bool)
+    → AllByRecursion IsPacket packets → Behind receiver sender.channel_count lost → length came ≡ length (frames_of profile sender word packets)
+    → FewLost lost came → LossesShow profile sender word packets receiver lost came

@@ -13,7 +13,8 @@ pub fn reports_come_back()
     ensures { ReportsComeBack }
 {}
 
-/// If whole frames are lost, fewer than 256 in a row, exactly those packets come all of whose octets lie in frames that came, in order.
+/// If whole frames are lost, fewer than 256 in a row, exactly those packets come all of whose octets lie in frames that came, in order. So it
+/// is of one list after the other.
 pub fn whole_packets_come()
     ensures { WholePacketsCome }
 {}
