@@ -11,3 +11,7 @@ pub mod Flights
 pub mod Telecommands
 pub mod TelecommandReaders
 pub mod TelecommandLaws
+pub mod Carriers
+pub mod Receivers
+pub mod CarrierLaws
+pub mod LossLaws

@@ -1,14 +1,16 @@
-//! The packets of a link: space packets, ECSS telecommand packets and telemetry reports, written and read.
+//! The packets of a link: space packets, ECSS telecommand packets and telemetry reports, written and read; and packets over telemetry frames.
 //!
 //! Everything here is a function of values. Nothing reads a socket or a clock.
 #![tactic(auto)]
 
 mod application_data;
+pub mod carrier_laws;
 mod flights;
 mod identities;
 pub mod laws;
 mod octet_fields;
 mod outcomes;
+mod packet_readers;
 pub mod report_laws;
 mod report_readers;
 mod reports;
@@ -17,6 +19,7 @@ mod task_readers;
 mod telecommand_readers;
 mod telecommands;
 mod times;
+mod tm_senders;
 mod told;
 
 pub use application_data::{ApplicationData, MOST_DATA};
@@ -25,6 +28,7 @@ pub use identities::{
     ActivityName, NAME, REQUEST_ID, flies, put_name, put_request_id, read_name, read_request_id,
 };
 pub use outcomes::{OUTCOME, put_outcome, read_outcome};
+pub use packet_readers::{Item, PacketReader};
 pub use report_readers::read_report;
 pub use reports::{is_reportable, report};
 pub use space_packets::{
@@ -38,6 +42,7 @@ pub use times::{
     first_on_board, fits_offset, has_time, last_on_board, put_offset, put_time, read_offset,
     read_time, time_octets,
 };
+pub use tm_senders::TmSender;
 pub use told::{
     Heard, HeardReport, ReportFault, ScheduleSummary, ScheduledActivities, ScheduledActivity, Told,
 };
