@@ -266,19 +266,6 @@ def taking(cases: Cases) -> None:
         cases.tell("a peer that takes nothing: how it ended", 2, server.end().err.count(": answered\n"))
 
 
-def still(cases: Cases) -> None:
-    """A server that stood still for longer than a peer may say nothing: what came meanwhile is read, and answered, before that peer is let go."""
-    none, folder = cases.places(), cases.folder()
-    with cases.server(folder, 1) as server, server.connect() as peer:
-        send(peer, PLACES[:9])
-        server.quiet()
-        with stopped(server):
-            send(peer, PLACES[9:])
-            time.sleep(SILENCE + 1)
-        cases.tell("a peer whose request was whole while the server stood still", none, received(peer))
-        cases.ended("a server that stood still", server)
-
-
 def ends(cases: Cases) -> None:
     """How connections end is told where that is asked, and only there."""
     none, folder = cases.places(), cases.folder()
@@ -401,7 +388,7 @@ def exhausted(cases: Cases) -> None:
     cases.tell("the desk that it kept", "places 1: 1 0", run(cases.program, folder, [], "--db", "desk.db")[:13])
 
 
-GROUPS = (silent, foreign, dripping, behind, kept, crowd, ordered, crammed, taking, still, ends, lost, uncounted, starved, exhausted)
+GROUPS = (silent, foreign, dripping, behind, kept, crowd, ordered, crammed, taking, ends, lost, uncounted, starved, exhausted)
 
 
 def tried(program: str, work: str, group: Callable[[Cases], None], tries: int = TRIES) -> Cases:
