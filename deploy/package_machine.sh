@@ -101,6 +101,7 @@ service_cases() {
     machine_says "a file that is no desk's: the start fails, says why, and stays down after 5 starts" $'status 1\n5 tcdesk: cannot use /var/lib/tcdesk/two.db\nfailed' \
         "echo PORT=8082 >/etc/default/tcdesk-two; install -o tcdesk -g tcdesk -m 600 /etc/hostname /var/lib/tcdesk/two.db
         systemctl start tcdesk@two 2>/dev/null; echo status \$?; till 'systemctl -q is-failed tcdesk@two'
+        till 'journalctl --sync; journalctl -t tcdesk -o cat -u tcdesk@two | grep -c cannot | grep -qx 5'
         journalctl -t tcdesk -o cat -u tcdesk@two | grep cannot | uniq -c | sed 's/^ *//'; systemctl is-active tcdesk@two"
     machine_says "no port: the start fails, and says why" $'status 1\nis not set, so /etc/default/tcdesk-three has to say PORT=N' \
         "touch /etc/default/tcdesk-three; systemctl start tcdesk@three 2>/dev/null; echo status \$?; systemctl stop tcdesk@three

@@ -26,7 +26,6 @@ from tests.http_peer import FAIR, PATIENCE, TRIES, Ended, Fault, Late, Server, p
 SILENCE, WHOLE, FAREWELL = 5.0, 30.0, 2.0  # seconds: without a byte, for a request, behind an answer
 WAIT = PATIENCE / 60  # seconds that a good peer waits at most, whoever is beside it: 1, where nobody asks for more patience
 CROWD, MOST_PEERS = 20, 256
-MOST_LATE = 3  # of 40 good peers beside crowds, which are answered later than that
 LAST_TRY = 9.0  # seconds in which a handle has to come free: after 10 the server ends
 DRIP = b"GET /places HTTP/1.1\r\nX: " + b"a" * 100
 SEED = 20311127
@@ -173,20 +172,15 @@ def crowded(server: Server, open_ones: ExitStack) -> list[socket.socket]:
 
 def crowd(cases: Cases) -> None:
     """Crowds of dripping, silent and half-closed peers at once, one after the other for longer than a whole request may take: each good one between them is
-    answered at once, and no act of theirs is made. So few may be late on a busy machine."""
-    none, folder, done, late = cases.places(), cases.folder(), threading.Event(), list[Late]()
+    answered at once, and no act of theirs is made."""
+    none, folder, done = cases.places(), cases.folder(), threading.Event()
     with cases.server(folder, None) as server, ExitStack() as open_ones, ThreadPoolExecutor(1) as pool:
         drips = pool.submit(dripped, crowded(server, open_ones), done)
         try:
             for at in range(40):
                 if at and at % 10 == 0:
                     crowded(server, open_ones)
-                try:
-                    answered_at_once(cases, f"a good peer beside crowds, {at}", server, PLACES, none)
-                except Late as why:
-                    late.append(why)
-                    if len(late) > MOST_LATE:
-                        raise
+                answered_at_once(cases, f"a good peer beside crowds, {at}", server, PLACES, none)
                 time.sleep(WHOLE / 40)
         finally:
             done.set()
@@ -264,6 +258,26 @@ def taking(cases: Cases) -> None:
             cases.tell("the one beside a peer that takes nothing", b"HTTP/1.1 200", received(good)[:12])
             cases.within("a peer that takes nothing", 0, WAIT, time.monotonic() - began)
         cases.tell("a peer that takes nothing: how it ended", 2, server.end().err.count(": answered\n"))
+
+
+def still(cases: Cases) -> None:
+    """A server that stood still for longer than a peer may say nothing: what came meanwhile is read, and answered, before that peer is let go. It stands still
+    four times, since what it finds first as it goes on is by chance."""
+    none, folder, turns = cases.places(), cases.folder(), 4
+    with cases.server(folder, turns) as server:
+        server.listening()
+        for _ in range(turns):
+            began = time.monotonic()
+            with server.connect() as peer:
+                send(peer, PLACES[:9])
+                server.quiet()
+                with stopped(server):
+                    if time.monotonic() - began > FAIR:
+                        raise Late("the server did not stand still in time")
+                    send(peer, PLACES[9:])
+                    time.sleep(SILENCE + 1)
+                cases.tell("a peer whose request was whole while the server stood still", none, received(peer))
+        cases.ended("a server that stood still", server)
 
 
 def ends(cases: Cases) -> None:
@@ -388,7 +402,7 @@ def exhausted(cases: Cases) -> None:
     cases.tell("the desk that it kept", "places 1: 1 0", run(cases.program, folder, [], "--db", "desk.db")[:13])
 
 
-GROUPS = (silent, foreign, dripping, behind, kept, crowd, ordered, crammed, taking, ends, lost, uncounted, starved, exhausted)
+GROUPS = (silent, foreign, dripping, behind, kept, crowd, ordered, crammed, taking, still, ends, lost, uncounted, starved, exhausted)
 
 
 def tried(program: str, work: str, group: Callable[[Cases], None], tries: int = TRIES) -> Cases:

@@ -1,8 +1,9 @@
-"""The plain octets of a link: on the worked cases of tools/cases/octets, and on random values, damaged streams among them."""
+"""The plain octets of a link: on the worked cases of tools/cases/octets, on random values, damaged streams among them, and beside tshark."""
 import unittest
 
 from tests.asked import ASKED
 from tests.octet_cases import CASES, OF_FILES, case_answers, cases
+from tests.octet_dissector import dissected, header_of, some_packets, tshark
 from tests.octet_laws import LAWS, law_answers
 
 COUNT, SEED = 300, 1  # values of each law, and the first seed
@@ -35,6 +36,22 @@ class Laws(unittest.TestCase):
                 answers += 1
                 self.assertEqual(it.got, it.wanted, it.title)
         print(f"octets: {len(LAWS)} laws of {count} values each, {answers} answers")
+
+
+class Dissector(unittest.TestCase):
+    """What others read in a header."""
+
+    def test_headers(self) -> None:
+        """tshark sees the fields of each space packet's header that the plain reading sees. It is not tried where tshark is not installed."""
+        program = tshark()
+        if program is None:
+            self.skipTest("tshark is not installed (Debian: tshark)")
+        packets = some_packets(ASKED.count_or(COUNT), ASKED.seed_or(SEED))
+        found = dissected(program, packets)
+        self.assertEqual(len(packets), len(found))
+        for octets, header in zip(packets, found):
+            self.assertEqual(header_of(octets), header, octets.hex())
+        print(f"octets: {len(found)} headers of space packets beside tshark")
 
 
 if __name__ == "__main__":

@@ -2,11 +2,14 @@
 use Rattle.std.proofs.Common.{◌≡◌, ◌∙◌, ◌⊎◌, inl, inr, ap, subst, refl, sym, ℕ, Bool, true, false, MatchBool, List, [], ◌∷◌, Option, Some, None, Result, Ok, Err}
 use Rattle.std.proofs.lemmas.Bool.{false≢true}
 use Rattle.sqlite_trees.specs.declared.store.Store.{Ghosts}
+use Rattle.sqlite.specs.Held.{state}
+use Rattle.sqlite.specs.State.{HasCleanDisk}
 use Rattle.tc_types.specs.declared.acts.Act.{Act}
 use Rattle.tc_types.specs.declared.acts.Act.TheVariants as act
 use Rattle.tc_types.specs.declared.loads.LoadKind.{LoadKind}
 use Rattle.tc_types.specs.declared.loads.LoadKind.TheVariants as load_kind
 use Rattle.tc_types.specs.declared.refusals.Refusal.{Refusal}
+use Rattle.tc_types.specs.declared.refusals.Refusal.TheVariants.{Store, Stopped}
 use Rattle.tc_front.specs.declared.paths.Post.{Post}
 use Rattle.tc_front.specs.declared.paths.Post.TheVariants as paths
 use Rattle.tc_store.specs.Ledgers.{KeptAnswer}
@@ -16,14 +19,14 @@ use Rattle.tc_desk.specs.Acts.{is_question}
 use Rattle.tc_desk.specs.Promise.{KeepsPromise}
 use Rattle.tc_world.specs.EitherLink.{either}
 use Rattle.tc_desk.specs.Machine.{stamp_of}
-use Rattle.tc_desk.specs.Replies.{Reply}
+use Rattle.tc_desk.specs.Replies.{Reply, refusal_reply}
 use Rattle.tc_room.specs.declared.callers.Caller.{Caller}
 use Rattle.tc_room.specs.Calls.{ActsAnew, AnswersActCall, AnswersCall, AnswersLoadCall, FailsOnce, KeepsAll, LoadsAnew, MakesNothing, Makes, MakesOnce, Making, StaysSo, a_load, a_look, an_act, kept_after, kept_for}
 use Rattle.tc_room.specs.Crash.{ledger_of}
 use Rattle.tc_room.specs.Joined.{HasLedger, HoldsBook, Standing, desk_in}
 use Rattle.tc_room.specs.Replies.{ended, is_refused}
 use Rattle.tc_room.specs.Room.{FailsStore, RoomStep, StepsDesk}
-use Rattle.tc_room.proofs.CallLemmas.{act_call_held, keeps_after, load_call_held}
+use Rattle.tc_room.proofs.CallLemmas.{act_call_held, keeps_after, load_call_held, refuses as are_refused}
 use Rattle.tc_api.specs.Acts.{ActCall}
 use Rattle.tc_api.specs.Kept.{FailedAt, FailsTables, KeepsRoom, KeepsTables, ServesAll, ServesRead}
 use Rattle.tc_api.specs.Loads.{LoadCall}
@@ -137,6 +140,52 @@ module _ {S : Type 0} (g : Ghosts S) (caller : Caller) (old new : Standing S) (a
   load_call_keeps kind moment name csv answers = call_keeps (λ replies acts reply new. LoadsAnew g kind moment name csv replies caller old acts reply new) (λ replies made. load_fails replies kind moment name csv made)
       (λ replies held. load_call_held g replies caller old asks_act reply new kind moment name csv answers held) answers
 
+-- ---- a call that is accepted
+
+module _ {S : Type 0} (g : Ghosts S) (caller : Caller) (old new : Standing S) (asks_act : Bool) (reply : Reply) (granted : is_refused reply ≡ false) where
+  -- it stops no room
+  abbrev Goes : Type 0
+  Goes = new.stopped ≡ false
+
+  no_refusal : {P : Type 0} (refusal : Refusal) → reply ≡ refusal_reply refusal → P
+  no_refusal refusal is = not_both (is_refused reply) (ap is_refused is ∙ are_refused refusal) granted
+
+  makes_goes : (replies : List KeptAnswer) (making : Making) {Free : Type 0} → MakesOnce g replies caller (Makes old.desk making) Free old reply new → Goes
+  makes_goes replies making (inl does) = does.going
+  makes_goes replies making (inr (free, fails)) = no_refusal Store fails.reply
+
+  act_goes : (replies : List KeptAnswer) (moment : Option ℕ) (text : List ℕ) → ActsAnew g moment text replies caller old asks_act reply new → Goes
+  act_goes replies moment text (inl (refusal, judged, is, stays)) = stays.going
+  act_goes replies moment text (inr (line, judged, (is, answers))) = by_flag (is_question line.act) _ _ _ answers
+      (λ _ came. step_goes came)
+      (λ _ made. makes_goes replies (an_act (stamp_of line) line.act) made)
+    where
+      step_goes : StepsDesk g replies old (stamp_of line) line.act reply new ⊎ FailsStore g replies old (stamp_of line) line.act reply new → Goes
+      step_goes (inl steps) = steps.going
+      step_goes (inr fails) = no_refusal Store fails.reply
+
+  load_goes : (replies : List KeptAnswer) (kind : LoadKind) (moment : Option ℕ) (name csv : List ℕ) → LoadsAnew g kind moment name csv replies caller old asks_act reply new → Goes
+  load_goes replies kind moment name csv (is, inl (refusal, why, which, told, stays)) = stays.going
+  load_goes replies kind moment name csv (is, inr (at, some, named, inl (refusal, unread, told, stays))) = stays.going
+  load_goes replies kind moment name csv (is, inr (at, some, named, inr (given, spells, makes))) = makes_goes replies (a_load (record { by = caller.by; moment = at }) given) makes
+
+  answered_goes : (replies : List KeptAnswer) (Anew : Type 0) → (Anew → Goes) → Answered g caller old new asks_act reply replies Anew → Goes
+  answered_goes replies Anew anew (inl fails) = no_refusal Store fails.reply
+  answered_goes replies Anew anew (inr (inl (kept, was, is, stays))) = stays.going
+  answered_goes replies Anew anew (inr (inr (none, made))) = anew made
+
+  call_goes : (Anew : List KeptAnswer → Bool → Reply → Standing S → Type 0) → ((replies : List KeptAnswer) → Anew replies asks_act reply new → Goes)
+      → AnswersCall g Anew caller old asks_act reply new → (replies : List KeptAnswer) → HoldsBook g old replies → HasCleanDisk (state g new.tables) → Goes
+  call_goes Anew goes answers replies held clean = by_flag old.stopped _ (Answered g caller old new asks_act reply replies (Anew replies asks_act reply new)) _ (answers replies held clean)
+      (λ _ told. no_refusal Stopped told.0)
+      (λ _ came. answered_goes replies (Anew replies asks_act reply new) (goes replies) came)
+
+  pub act_call_goes : (moment : Option ℕ) (text : List ℕ) → AnswersActCall g caller moment text old asks_act reply new → (replies : List KeptAnswer) → HoldsBook g old replies → HasCleanDisk (state g new.tables) → Goes
+  act_call_goes moment text answers = call_goes (λ replies acts reply new. ActsAnew g moment text replies caller old acts reply new) (λ replies made. act_goes replies moment text made) answers
+
+  pub load_call_goes : (kind : LoadKind) (moment : Option ℕ) (name csv : List ℕ) → AnswersLoadCall g caller kind moment name csv old asks_act reply new → (replies : List KeptAnswer) → HoldsBook g old replies → HasCleanDisk (state g new.tables) → Goes
+  load_call_goes kind moment name csv answers = call_goes (λ replies acts reply new. LoadsAnew g kind moment name csv replies caller old acts reply new) (λ replies made. load_goes replies kind moment name csv made) answers
+
 -- ---- what is served
 
 acts_keep : {S : Type 0} (g : Ghosts S) (old new : Standing S) (given : Result ActCall Refusal) (outcome : Outcome) → ServesActCall g old given outcome new → KeepsTables g old new
@@ -220,7 +269,7 @@ failed_later g replies mid start next keeps same at = record {
   failed = at.failed;
 }
 
-at_flag : (b : Bool) (P : Type 0) → (b ≡ true → P) → (b ≡ false → P) → P
+pub at_flag : (b : Bool) (P : Type 0) → (b ≡ true → P) → (b ≡ false → P) → P
 at_flag true P on off = on refl
 at_flag false P on off = off refl
 

@@ -11,6 +11,7 @@ use Rattle.tc_room.specs.declared.callers.Caller.{Caller}
 use Rattle.tc_api.specs.Acts.{ActCall, ActKeys, JudgesActKeys, JudgesActPost, act_keys}
 use Rattle.tc_api.specs.Bodies.{IsJson, JudgesCaller, JudgesNumber, call_number_in, moment_in}
 use Rattle.tc_api.specs.Loads.{JudgesLoadKeys, JudgesLoadPost, LoadCall, LoadKeys, load_keys}
+use Rattle.tc_api.specs.Serving.{IsTheReading}
 
 json_one : (body : List ℕ) (v w : Option Data) → IsJson body v → IsJson body w → v ≡ w
 json_one body None None h k = refl
@@ -37,16 +38,24 @@ act_keys_one : (keys : Option ActKeys) (a b : Result ActCall Refusal) → Judges
 act_keys_one None a b h k = h ∙ sym k
 act_keys_one (Some keys) a b h k = caller_one keys.by keys.number (λ caller. record { caller = caller; moment = moment_in keys.moment; text = keys.act }) a b h k
 
-pub act_post_one : (body : List ℕ) (a b : Result ActCall Refusal) → JudgesActPost body a → JudgesActPost body b → a ≡ b
+act_post_one : (body : List ℕ) (a b : Result ActCall Refusal) → JudgesActPost body a → JudgesActPost body b → a ≡ b
 unfolding JudgesActPost
 act_post_one body a b h k =
     act_keys_one (option_and_then act_keys k.0) a b (subst (λ (v : Option Data). JudgesActKeys (option_and_then act_keys v) a) (json_one body h.0 k.0 h.1 k.1) h.2) k.2
+
+-- what a body posts to /acts is read so
+pub the_act : (body : List ℕ) (given : Result ActCall Refusal) → JudgesActPost body given → IsTheReading (JudgesActPost body) given
+the_act body given judged = record { judged = judged; only = λ other allowed. act_post_one body other given allowed judged }
 
 load_keys_one : (keys : Option LoadKeys) (a b : Result LoadCall Refusal) → JudgesLoadKeys keys a → JudgesLoadKeys keys b → a ≡ b
 load_keys_one None a b h k = h ∙ sym k
 load_keys_one (Some keys) a b h k = caller_one keys.by keys.number (λ caller. record { caller = caller; moment = moment_in keys.moment; name = keys.name; csv = keys.csv }) a b h k
 
-pub load_post_one : (body : List ℕ) (a b : Result LoadCall Refusal) → JudgesLoadPost body a → JudgesLoadPost body b → a ≡ b
+load_post_one : (body : List ℕ) (a b : Result LoadCall Refusal) → JudgesLoadPost body a → JudgesLoadPost body b → a ≡ b
 unfolding JudgesLoadPost
 load_post_one body a b h k =
     load_keys_one (option_and_then load_keys k.0) a b (subst (λ (v : Option Data). JudgesLoadKeys (option_and_then load_keys v) a) (json_one body h.0 k.0 h.1 k.1) h.2) k.2
+
+-- so it is of a load
+pub the_load : (body : List ℕ) (given : Result LoadCall Refusal) → JudgesLoadPost body given → IsTheReading (JudgesLoadPost body) given
+the_load body given judged = record { judged = judged; only = λ other allowed. load_post_one body other given allowed judged }

@@ -30,6 +30,7 @@ use Rattle.tc_api.specs.Endings.{is_done}
 use Rattle.tc_api.specs.Openings.{opening_line}
 use Rattle.tc_api.specs.Loads.{JudgesLoadKeys, JudgesLoadPost, LoadCall, LoadKeys, load_keys}
 use Rattle.tc_api.specs.Serving.{EndsWith, HasText, IsOutcome, IsServedBy, Outcome, Serves, ServesActCall, ServesWall, ServesBody, ServesKeys, ServesPost, ServesQuery, ServesValue, Tells, TellsOpening, outcome_of, page_in, refused_front, refused_with}
+use Rattle.tc_api.proofs.OneLemmas.{the_act, the_load}
 
 pub outcome_made : (acts : Bool) (reply : Reply) (ending : Ending) (text : Option Told) (served : Served) → served ≡ record { ending = ending; stands = acts && is_done ending; text = text }
     → EndsWith reply ending → page_in text ≡ None → IfSome text (Tells reply) → IsOutcome acts (outcome_of reply served) × HasText reply served
@@ -90,9 +91,9 @@ posts_procedure g old new post value outcome is h = rw is h
 -- what stands in a body that is JSON
 value_served : {S : Type 0} (g : Ghosts S) (old new : Standing S) (post : Post) (body : List ℕ) (value : Data) (outcome : Outcome) → IsUtf8 body × (read body ≡ Some value) → ServesValue g old post value outcome new → ServesBody g old post body outcome new
 unfolding JudgesActPost JudgesLoadPost
-value_served g old new paths.Acts body value outcome json (given, judged, serves) = (given, (Some value, json, judged), serves)
-value_served g old new paths.Stacks body value outcome json (given, judged, serves) = (given, (Some value, json, judged), serves)
-value_served g old new paths.Procedures body value outcome json (given, judged, serves) = (given, (Some value, json, judged), serves)
+value_served g old new paths.Acts body value outcome json (given, judged, serves) = (given, the_act body given (Some value, json, judged), serves)
+value_served g old new paths.Stacks body value outcome json (given, judged, serves) = (given, the_load body given (Some value, json, judged), serves)
+value_served g old new paths.Procedures body value outcome json (given, judged, serves) = (given, the_load body given (Some value, json, judged), serves)
 
 pub body_served : {S : Type 0} (g : Ghosts S) (old new : Standing S) (post : Post) (body : List ℕ) (value : Data) (outcome : Outcome) → IsUtf8 body × (read body ≡ Some value) → ServesValue g old post value outcome new → ServesPost g old post body outcome new
 body_served g old new post body value outcome json serves = record { served = inr (value_served g old new post body value outcome json serves) }
@@ -100,9 +101,9 @@ body_served g old new post body value outcome json serves = record { served = in
 -- a body that is none
 bad_served : {S : Type 0} (g : Ghosts S) (old : Standing S) (post : Post) (body : List ℕ) (outcome : Outcome) → (IsUtf8 body → read body ≡ None) → outcome ≡ refused_with BadText → ServesBody g old post body outcome old
 unfolding JudgesActPost JudgesLoadPost
-bad_served g old paths.Acts body outcome none so = (Err BadText, (None, none, refl), (so, refl))
-bad_served g old paths.Stacks body outcome none so = (Err BadText, (None, none, refl), (so, refl))
-bad_served g old paths.Procedures body outcome none so = (Err BadText, (None, none, refl), (so, refl))
+bad_served g old paths.Acts body outcome none so = (Err BadText, the_act body (Err BadText) (None, none, refl), (so, refl))
+bad_served g old paths.Stacks body outcome none so = (Err BadText, the_load body (Err BadText) (None, none, refl), (so, refl))
+bad_served g old paths.Procedures body outcome none so = (Err BadText, the_load body (Err BadText) (None, none, refl), (so, refl))
 
 pub body_unread : {S : Type 0} (g : Ghosts S) (old : Standing S) (post : Post) (body : List ℕ) (refusal : Refusal) (outcome : Outcome)
     → (refusal ≡ Memory) ⊎ ((refusal ≡ BadText) × (IsUtf8 body → read body ≡ None)) → outcome ≡ refused_with refusal → ServesPost g old post body outcome old

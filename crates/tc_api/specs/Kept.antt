@@ -1,5 +1,6 @@
 -- What exchanges leave of a room, one after the other.
 use Rattle.std.specs.Prelude.{◌≡◌, ◌⊎◌, ℕ, true, false, Option, Some, None, Ok, List, [], ◌∷◌}
+use Rattle.sqlite_trees.specs.Tree.{Trees}
 use Rattle.sqlite_trees.specs.declared.store.Store.{Ghosts}
 use Rattle.sqlite.specs.Held.{state}
 use Rattle.sqlite.specs.State.{HasCleanDisk}
@@ -12,11 +13,13 @@ use Rattle.tc_desk.specs.Replies.{Reply, refusal_reply}
 use Rattle.tc_world.specs.declared.configs.Config.{Config}
 use Rattle.tc_world.specs.EitherLink.{either}
 use Rattle.tc_store.specs.Ledgers.{KeptAnswer, Ledger}
+use Rattle.tc_store.specs.Told.{IsTold}
 use Rattle.tc_front.specs.declared.paths.Post.TheVariants as paths
 use Rattle.tc_front.specs.Front.{Asked, asks, posts, refuses, shows, tells}
-use Rattle.tc_room.specs.Calls.{FailsOnce, KeepsAll, Makes, Making}
-use Rattle.tc_room.specs.Crash.{Leaves, ledger_of}
-use Rattle.tc_room.specs.Joined.{HoldsBook, Standing, desk_in}
+use Rattle.tc_room.specs.Calls.{FailsOnce, KeepsAll, Makes, Making, kept_for}
+use Rattle.tc_room.specs.Crash.{HasRows, Leaves, ledger_of}
+use Rattle.tc_room.specs.Joined.{HoldsBook, IsKept, Standing, desk_in}
+use Rattle.tc_room.specs.Replies.{ended}
 use Rattle.tc_room.specs.Opening.{OpensLeft}
 use Rattle.tc_room.specs.Room.{FailsStore}
 use Rattle.tc_room.specs.declared.callers.Caller.{Caller}
@@ -44,11 +47,12 @@ abbrev pub ServesRead : {S : Type 0} → Ghosts S → Standing S → Option Aske
 ServesRead g old None new = new ≡ old
 ServesRead g old (Some asked) new = (since : ℕ) × (outcome : Outcome) × Serves since g old asked outcome new
 
--- One exchange, whatever it answers: what was read is served, and the promise is kept.
+-- One exchange, whatever it answers: what was read is served, the promise is kept, and the book is one that a room keeps.
 pub record ServesOne {S : Type 0} (g : Ghosts S) (old : Standing S) (read : Option Asked) (new : Standing S) : Type 0 where
   pub served : ServesRead g old read new
   pub opened : new.opened ≡ old.opened
   pub promise : KeepsPromise either (desk_in new)
+  pub kept : IsKept new.desk.book
 
 -- exchanges, one after the other, of which these were read
 abbrev pub ServesAll : {S : Type 0} → Ghosts S → Standing S → List (Option Asked) → Standing S → Type 0
@@ -87,34 +91,37 @@ IsCallOf caller (posts paths.Acts body) = (call : ActCall) × JudgesActPost body
 IsCallOf caller (posts paths.Stacks body) = (call : LoadCall) × JudgesLoadPost body (Ok call) × (call.caller ≡ caller)
 IsCallOf caller (posts paths.Procedures body) = (call : LoadCall) × JudgesLoadPost body (Ok call) × (call.caller ≡ caller)
 
--- an exchange that called so, over a disk that gave back what was written
+-- an exchange that called so, over a disk that gave back what was written; its book is one that a room keeps, as each exchange has it (`ServesOne`)
 pub record Called {S : Type 0} (g : Ghosts S) (caller : Caller) (old : Standing S) (outcome : Outcome) (new : Standing S) : Type 0 where
   pub since : ℕ
   pub asked : Asked
   pub serves : Serves since g old asked outcome new
   pub calls : IsCallOf caller asked
   pub clean : HasCleanDisk (state g new.tables)
+  pub kept : IsKept new.desk.book
 
 -- what comes between: exchanges, and openings of the next room over what the one before left
 pub data Stage : Type 0 where
   exchange : Option Asked → Stage
   opening : Stage
 
--- The next room was opened over tables that hold each reply that was kept.
-pub record OpensNext {S : Type 0} (g : Ghosts S) (replies : List KeptAnswer) (next : Standing S) : Type 0 where
+-- The next room was opened at a moment over tables that a crash, or the end of the program, may have left of the last one's, whichever rows they are read as. The
+-- disk had given back what was written. Its book is one that a room keeps, as that of each room is.
+pub record OpensNext {S : Type 0} (g : Ghosts S) (last next : Standing S) : Type 0 where
   pub config : Config
   pub moment : ℕ
-  pub ledger : Ledger
   pub moves : List Move
-  pub opened : OpensLeft g config moment ledger moves next
-  pub keeps : KeepsAll replies ledger.replies
+  pub trees : Trees
+  pub clean : HasCleanDisk (state g last.tables)
+  pub left : ∥ (state g last.tables).may_leave trees ∥₁
+  pub opened : (ledger : Ledger) → IsTold ledger.image → HasRows trees ledger → OpensLeft g config moment ledger moves next
+  pub kept : IsKept next.desk.book
 
--- From a room whose tables hold its book and these replies, one stage after the other, to another: of an exchange they are the replies that it leaves.
-abbrev pub GoesThrough : {S : Type 0} → Ghosts S → Standing S → List KeptAnswer → List Stage → Standing S → List KeptAnswer → Type 0
-GoesThrough g start replies [] end after = (end ≡ start) × (after ≡ replies)
-GoesThrough {S} g start replies (exchange read ∷ others) end after =
-    (next : Standing S) × (mid : List KeptAnswer) × ServesRead g start read next × KeepsAll replies mid × HoldsBook g next mid × GoesThrough g next mid others end after
-GoesThrough {S} g start replies (opening ∷ others) end after = (next : Standing S) × (opens : OpensNext g replies next) × GoesThrough g next opens.ledger.replies others end after
+-- from one room to another, one stage after the other
+abbrev pub GoesThrough : {S : Type 0} → Ghosts S → Standing S → List Stage → Standing S → Type 0
+GoesThrough g start [] end = end ≡ start
+GoesThrough {S} g start (exchange read ∷ others) end = (next : Standing S) × ServesOne g start read next × GoesThrough g next others end
+GoesThrough {S} g start (opening ∷ others) end = (next : Standing S) × OpensNext g start next × GoesThrough g next others end
 
 -- The database failed as the kept replies were looked for: the room stops, and its files hold what they held, so nothing was done.
 pub record StopsWithNothing {S : Type 0} (g : Ghosts S) (replies : List KeptAnswer) (old : Standing S) (told : Reply) (new : Standing S) : Type 0 where
@@ -129,9 +136,11 @@ IsTheSame g replies first old again new =
     ((response_to again ≡ response_to first) × (new.desk ≡ old.desk))
     ⊎ (((again.reply ≡ refusal_reply Stopped) × (new ≡ old)) ⊎ (StopsWithNothing g replies old again.reply new ⊎ FindsNoMemory old again new))
 
--- A call was accepted, and its reply is kept: whatever comes then, if it comes again it is not done again.
+-- where the reply of the first is among the replies that are kept
+abbrev pub IsRepeated : {S : Type 0} → Ghosts S → Caller → Outcome → Standing S → Outcome → Standing S → Type 0
+IsRepeated g caller first old again new = (replies : List KeptAnswer) × (kept_for replies caller ≡ Some (ended first.reply)) × IsTheSame g replies first old again new
+
+-- A call was accepted: whatever comes then, if it comes again it is not done again.
 pub record IsDoneOnce {S : Type 0} (g : Ghosts S) (caller : Caller) (first : Outcome) (next : Standing S) : Type 0 where
-  pub replies : List KeptAnswer
-  pub holds : HoldsBook g next replies
-  pub again : (stages : List Stage) (last : Standing S) (after : List KeptAnswer) → GoesThrough g next replies stages last after
-      → (again : Outcome) (end : Standing S) → Called g caller last again end → IsTheSame g after first last again end
+  pub again : (stages : List Stage) (last : Standing S) → GoesThrough g next stages last → (again : Outcome) (end : Standing S) → Called g caller last again end
+      → ∥ IsRepeated g caller first last again end ∥₁

@@ -95,13 +95,18 @@ ServesLoadCall g old kind (Err refusal) outcome new = (outcome ≡ refused_with 
 abbrev pub FindsNoMemory : {S : Type 0} → Standing S → Outcome → Standing S → Type 0
 FindsNoMemory old outcome new = (outcome ≡ refused_with Memory) × (new ≡ old)
 
+-- A post is read as this; and any other reading that its tests allow is the same.
+pub record IsTheReading {X : Type 0} (Judges : Result X Refusal → Type 0) (given : Result X Refusal) : Type 0 where
+  pub judged : Judges given
+  pub only : (other : Result X Refusal) → Judges other → other ≡ given
+
 -- what a body posts to be loaded as this kind is called
 abbrev pub ServesText : {S : Type 0} → Ghosts S → Standing S → LoadKind → List ℕ → Outcome → Standing S → Type 0
-ServesText g old kind body outcome new = (given : Result LoadCall Refusal) × JudgesLoadPost body given × ServesLoadCall g old kind given outcome new
+ServesText g old kind body outcome new = (given : Result LoadCall Refusal) × IsTheReading (JudgesLoadPost body) given × ServesLoadCall g old kind given outcome new
 
 -- a body posted to each route
 abbrev pub ServesBody : {S : Type 0} → Ghosts S → Standing S → Post → List ℕ → Outcome → Standing S → Type 0
-ServesBody g old paths.Acts body outcome new = (given : Result ActCall Refusal) × JudgesActPost body given × ServesActCall g old given outcome new
+ServesBody g old paths.Acts body outcome new = (given : Result ActCall Refusal) × IsTheReading (JudgesActPost body) given × ServesActCall g old given outcome new
 ServesBody g old paths.Stacks body outcome new = ServesText g old load_kind.Stack body outcome new
 ServesBody g old paths.Procedures body outcome new = ServesText g old load_kind.Procedure body outcome new
 

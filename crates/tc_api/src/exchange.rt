@@ -56,7 +56,7 @@ fn respond<W: Write>(alloc: Global, served: &Served, writer: &mut Counted<W>) ->
     Ok(write_whole(writer, response.as_bytes())?)
 }
 
-/// One exchange, of which the caller learns what the rows tell.
+/// One exchange; `serve_one` adds that the promise is kept.
 fn exchange<R: Read, W: Write, S: Alter + Drop>(
     alloc: Global,
     door: &Door,

@@ -2,9 +2,10 @@
 
 use crate::serving::ServiceFault;
 use tc_closed::ScriptFault;
+use tc_copy::MOST_COPIES;
 use tc_host::{
-    Because, CopyFault, MOST_COPIES, Unusable, why_no_desk, why_no_opening, why_no_script,
-    why_uncopied, why_unread, why_unwritable,
+    Because, CopyFault, Unusable, why_no_desk, why_no_opening, why_no_script, why_uncopied,
+    why_unread, why_unwritable,
 };
 
 /// The exit status of a fault: of usage, of a file or of memory.

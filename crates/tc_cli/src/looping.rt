@@ -1,6 +1,7 @@
 //! The lines of a script, sent over HTTP (RFC 9112) to a desk that this program serves itself: each is posted by a connection of its own, taken, served,
 //! and its response read. All that is by one thread, so a request has to fit what the system holds for a connection that is not read yet: it has
 //! at most 201 bytes of an act.
+ghost use Rattle.std.specs.Prelude.{⊤};
 
 use crate::serving::{ServiceFault, closed};
 use sqlite::Alter;
@@ -11,11 +12,9 @@ use tc_api::serve_one;
 use tc_closed::{Answered, ScriptFault, Watch, put, status_of};
 use tc_front::Door;
 use tc_host::{HostWatch, open_desk, refusal_of, text_at};
-use tc_posts::{Told, Untellable, places_request, post_request, read_told};
+use tc_posts::{Client, NumberedLine, Told, Untellable, numbered_lines, send_script};
 use tc_room::Room;
-use tc_run::{
-    NumberedLine, Opening, exchange, last_moment, latest_moment, numbered_lines, open_told,
-};
+use tc_run::{Opening, exchange, last_moment, latest_moment, open_told};
 use tc_types::{Counted, Moment, Refusal};
 use tc_words::Telling;
 
@@ -110,77 +109,72 @@ fn received(alloc: Global, client: &TcpStream) -> io::Result<Vec<u8>> {
     Ok(response)
 }
 
-/// What the desk answers a request.
-fn answered<S: Alter + Drop>(
+/// What the desk answers a request, byte for byte.
+fn response_to<S: Alter + Drop>(
     rt: &HostRuntime,
     server: &Server,
     room: &mut Room<S>,
     request: &[u8],
-) -> Result<Told, ServiceFault> {
+) -> Result<Vec<u8>, ServiceFault> {
     let client = sent(rt, server, request).map_err(|error| fault_of(server.port, &error))?;
     serve_client(rt.alloc(), server, &client, room)?;
-    let received = received(rt.alloc(), &client);
-    let response = received.map_err(|error| fault_of(server.port, &error))?;
-    read_told(rt.alloc(), &response).map_err(|why| match why {
-        Untellable::Memory => ServiceFault::from(ScriptFault::Memory),
-        Untellable::NoResponse => ServiceFault::Port(server.port),
-    })
+    received(rt.alloc(), &client).map_err(|error| fault_of(server.port, &error))
 }
 
-/// Sends a line under its number and writes the lines that it is answered. Says whether it was refused.
-fn send_line<S: Alter + Drop, W: Write>(
-    rt: &HostRuntime,
-    server: &Server,
-    room: &mut Room<S>,
-    sent: &NumberedLine<'_>,
-    watch: &HostWatch<'_>,
-    writer: &mut Counted<W>,
-) -> Result<bool, ServiceFault> {
-    let request = post_request(rt.alloc(), server.port, sent.line, sent.number)?;
-    let last = last_moment(room);
-    let told = answered(rt, server, room, request.as_bytes())?;
-    let shown = exchange(rt.alloc(), watch.echoes(), sent.line, told.text)?;
-    put(writer, &shown)?;
-    watch.answered(&Answered {
-        number: sent.place,
-        line: sent.line,
-        refusal: refusal_of(told.refusal),
-        last,
-    });
-    Ok(told.refusal != 0)
+/// A client that sends the lines of a script to a server of the program's own, and writes what they are answered.
+#[derive(Drop)]
+struct HostClient<'rt, 'server, 'room, 'watch, 'script, 'writer, S: Alter + Drop, W: Write> {
+    rt: &'rt HostRuntime,
+    server: &'server Server,
+    room: &'room mut Room<S>,
+    watch: &'watch HostWatch<'script>,
+    writer: &'writer mut Counted<W>,
+    /// When the last move was before the last request, if there was one.
+    last: Option<Moment>,
 }
 
-/// Sends each of these lines under its number, and says whether any was refused.
-fn send_lines<S: Alter + Drop, W: Write>(
-    rt: &HostRuntime,
-    server: &Server,
-    room: &mut Room<S>,
-    lines: &[NumberedLine<'_>],
-    watch: &HostWatch<'_>,
-    writer: &mut Counted<W>,
-) -> Result<bool, ServiceFault> {
-    let mut refused = false;
-    for sent in lines {
-        refused |= send_line(rt, server, room, sent, watch, writer)?;
+impl<S: Alter + Drop, W: Write> Client for HostClient<'_, '_, '_, '_, '_, '_, S, W> {
+    type Fault = ServiceFault;
+
+    // no contract can say what a socket gives
+    ghost did = { λ _ _ _. ⊤ };
+
+    ghost nothing = { λ _. tt };
+
+    ghost joined = { λ _ _ _ _ _ _ _. tt };
+
+    fn send(&mut self, request: &[u8]) -> Result<Vec<u8>, ServiceFault> {
+        self.last = last_moment(self.room);
+        response_to(self.rt, self.server, self.room, request)
     }
-    Ok(refused)
-}
 
-/// Asks how many requests stand where, and says whether that was refused.
-fn send_question<S: Alter + Drop, W: Write>(
-    rt: &HostRuntime,
-    server: &Server,
-    room: &mut Room<S>,
-    writer: &mut Counted<W>,
-) -> Result<bool, ServiceFault> {
-    let request = places_request(rt.alloc(), server.port)?;
-    let told = answered(rt, server, room, request.as_bytes())?;
-    put(writer, told.text.as_bytes())?;
-    Ok(told.refusal != 0)
+    fn show_answer(&mut self, line: &NumberedLine<'_>, told: Told) -> Result<(), ServiceFault> {
+        let Told { text, refusal } = told;
+        let shown = exchange(self.rt.alloc(), self.watch.echoes(), line.line, text)?;
+        put(self.writer, &shown)?;
+        self.watch.answered(&Answered {
+            number: line.place,
+            line: line.line,
+            refusal: refusal_of(refusal),
+            last: self.last,
+        });
+        Ok(())
+    }
+
+    fn show_places(&mut self, told: Told) -> Result<(), ServiceFault> {
+        Ok(put(self.writer, told.text.as_bytes())?)
+    }
+
+    fn untellable(&self, why: Untellable) -> ServiceFault {
+        match why {
+            Untellable::Memory => ServiceFault::from(ScriptFault::Memory),
+            Untellable::NoResponse => ServiceFault::Port(self.server.port),
+        }
+    }
 }
 
 /// Sends the lines, and at the end the question how many requests stand where, which has no number.
-fn send_script<S: Alter + Drop, W: Write>(
+fn send_all<S: Alter + Drop, W: Write>(
     rt: &HostRuntime,
     room: &mut Room<S>,
     since: Moment,
@@ -189,9 +183,16 @@ fn send_script<S: Alter + Drop, W: Write>(
     writer: &mut Counted<W>,
 ) -> Result<u8, ServiceFault> {
     let server = listen(rt, since)?;
-    let refused = send_lines(rt, &server, room, lines, watch, writer)?;
-    let last = send_question(rt, &server, room, writer)?;
-    Ok(status_of(refused | last))
+    let mut client = HostClient {
+        rt,
+        server: &server,
+        room,
+        watch,
+        writer,
+        last: None,
+    };
+    let refused = send_script(rt.alloc(), &mut client, server.port, lines)?;
+    Ok(status_of(refused))
 }
 
 /// Says, if all is told, when a desk was opened that was worked before, and how many moves stood then. Its link is new since.
@@ -223,7 +224,7 @@ pub fn send_to_file(
             let watch = HostWatch::of_loop(rt, script, telling);
             watch.opened(opening.moment, latest_moment(&room));
             tell_new_link(rt, telling, opening.moment, room.opened());
-            let ended = send_script(rt, &mut room, opening.moment, &lines, &watch, &mut writer);
+            let ended = send_all(rt, &mut room, opening.moment, &lines, &watch, &mut writer);
             closed(room.into_connection(), ended)
         }
         Err(left) => closed(left.store, Err(ServiceFault::from(left.fault))),

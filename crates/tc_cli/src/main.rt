@@ -18,6 +18,8 @@
 //! `tcdesk loop DB SCRIPT` sends the lines of a script over HTTP to a desk that it serves itself, and prints what is answered.
 #![tactic(auto)]
 
+ghost use Rattle.std.specs.Prelude.{⊤};
+
 mod faults;
 mod looping;
 mod peers;
@@ -41,7 +43,7 @@ use tc_host::{
 };
 use tc_run::{Opening, run_kept, run_script};
 use tc_types::{Counted, LoadKind, Moment};
-use tc_words::{CommandLine, Service, Telling, UsageFault, read_words};
+use tc_words::{Program, Service, Telling, UsageFault, carry_out, read_words};
 use tc_world::Config;
 
 /// The words where none are given.
@@ -79,7 +81,7 @@ fn borrowed<'a>(alloc: Global, args: &'a [String]) -> Result<Vec<&'a str>, Alloc
 
 fn run_words(rt: &HostRuntime, words: &[&str]) -> u8 {
     match read_words(rt.alloc(), words) {
-        Ok(line) => run_line(rt, &line),
+        Ok(line) => carry_out(&HostProgram { rt }, &line),
         Err(UsageFault::Words(error)) => match error.print(rt) {
             Ok(()) => error.exit_code() as u8,
             Err(_) => cannot_use(rt, "output"),
@@ -91,64 +93,78 @@ fn run_words(rt: &HostRuntime, words: &[&str]) -> u8 {
     }
 }
 
-/// How a desk is opened by these words.
-fn opening_of(config: &Config, moment: &Moment) -> Opening {
-    Opening {
-        config: *config,
-        moment: *moment,
-    }
+/// The program on this machine.
+#[derive(Drop)]
+struct HostProgram<'a> {
+    rt: &'a HostRuntime,
 }
 
-fn run_line(rt: &HostRuntime, line: &CommandLine<'_>) -> u8 {
-    match line {
-        CommandLine::Run {
+impl Program for HostProgram<'_> {
+    // no contract can say what the machine does
+    ghost carries = { λ _ _ _. ⊤ };
+
+    fn run(&self, script: &str, config: Config, telling: Telling) -> u8 {
+        run_new(self.rt, script, config, telling)
+    }
+
+    fn run_kept(
+        &self,
+        script: &str,
+        config: Config,
+        database: &str,
+        moment: Moment,
+        telling: Telling,
+    ) -> u8 {
+        run_kept_in(
+            self.rt,
             script,
-            config,
+            database,
+            &Opening { config, moment },
             telling,
-        } => run_new(rt, *script, *config, *telling),
-        CommandLine::RunKept {
+        )
+    }
+
+    fn report(&self, database: &str, from: Moment, to: Moment) -> u8 {
+        report_status(self.rt, print_report(self.rt, database, from, to), database)
+    }
+
+    fn backup(&self, database: &str, copy: &str) -> u8 {
+        copy_status(self.rt, backup(self.rt, database, copy), database, copy)
+    }
+
+    fn wall(&self, database: &str) -> u8 {
+        report_status(self.rt, print_wall(self.rt, database), database)
+    }
+
+    fn check(&self, kind: LoadKind, file: &str) -> u8 {
+        check_in(self.rt, kind, file)
+    }
+
+    fn check_script(&self, file: &str) -> u8 {
+        check_script_in(self.rt, file)
+    }
+
+    fn serve(&self, database: &str, service: Service<'_>, config: Config, moment: Moment) -> u8 {
+        serve_in(self.rt, database, &Opening { config, moment }, &service)
+    }
+
+    fn send(
+        &self,
+        database: &str,
+        script: &str,
+        config: Config,
+        moment: Moment,
+        first: u32,
+        telling: Telling,
+    ) -> u8 {
+        loop_in(
+            self.rt,
             script,
-            config,
             database,
-            moment,
-            telling,
-        } => run_kept_in(
-            rt,
-            *script,
-            *database,
-            &opening_of(config, moment),
-            *telling,
-        ),
-        CommandLine::Report { database, from, to } => {
-            report_status(rt, print_report(rt, *database, *from, *to), *database)
-        }
-        CommandLine::Backup { database, copy } => {
-            copy_status(rt, backup(rt, *database, *copy), *database, *copy)
-        }
-        CommandLine::Wall { database } => report_status(rt, print_wall(rt, *database), *database),
-        CommandLine::Check { kind, file } => check_in(rt, *kind, *file),
-        CommandLine::CheckScript { file } => check_script_in(rt, *file),
-        CommandLine::Serve {
-            database,
-            service,
-            config,
-            moment,
-        } => serve_in(rt, *database, &opening_of(config, moment), service),
-        CommandLine::Loop {
-            database,
-            script,
-            config,
-            moment,
+            &Opening { config, moment },
             first,
             telling,
-        } => loop_in(
-            rt,
-            *script,
-            *database,
-            &opening_of(config, moment),
-            *first,
-            *telling,
-        ),
+        )
     }
 }
 

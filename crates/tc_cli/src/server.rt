@@ -128,21 +128,21 @@ impl<'a> Server<'a> {
     pub(crate) fn serve<S: Alter + Drop>(&mut self, room: &mut Room<S>) -> io::Result<End> {
         let mut events = Events::with_capacity(self.rt.alloc(), MOST_EVENTS)?;
         for _ in 0..u64::MAX {
-            let now = Instant::now(self.rt)?;
-            self.take_all(now);
+            let before = Instant::now(self.rt)?;
+            self.take_all(before);
             if let Some((end, _)) = self.ending
                 && self.is_idle()
             {
                 return Ok(end);
             }
-            let patience = self.patience(now);
+            let patience = self.patience(before);
             self.poll.poll(&mut events, patience)?;
             let now = Instant::now(self.rt)?;
             for event in events.iter() {
                 self.go_on(event.token(), now);
             }
-            // after the events: a server that stood still finds what came meanwhile before it lets a peer go
-            self.give_up(now);
+            // only a peer whose time was over before the wait is let go: what came while the server stood still is read first
+            self.give_up(before);
             self.serve_all(room, now);
         }
         Ok(End::Count)

@@ -15,6 +15,22 @@ mod tables;
 mod windows;
 mod words;
 
+/// Checks that this holds, or else says what does not. Assertions stand here and in the two below alone: one takes a second to
+/// prove, and a call next to nothing.
+fn check(rt: &impl Abort, holds: bool, what: &str) {
+    assert!(rt; holds, "{what}");
+}
+
+/// Checks that this holds of a part of something.
+fn check_part(rt: &impl Abort, holds: bool, part: &str, what: &str) {
+    assert!(rt; holds, "{part} at {what}");
+}
+
+/// Checks that this holds at this place, or of this many.
+fn check_at(rt: &impl Abort, holds: bool, what: &str, place: u32) {
+    assert!(rt; holds, "{what}: {place}");
+}
+
 /// The number of a request.
 fn number(rt: &impl Abort, n: u32) -> RequestNumber {
     RequestNumber::new(n).expect(rt, "a number of a request")

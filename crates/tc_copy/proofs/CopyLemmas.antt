@@ -1,5 +1,5 @@
 -- What is copied while a log is not emptied is what stands.
-use Rattle.std.proofs.Common.{◌≡◌, ◌≢◌, ◌⊎◌, ℕ, List, [], ◌∷◌, ◌++◌, Option, Some, None, inl, inr, subst, sym, refl, ap, ◌∙◌}
+use Rattle.std.proofs.Common.{◌≡◌, ◌≢◌, ◌⊎◌, ℕ, zero, List, [], ◌∷◌, ◌++◌, Option, Some, None, append_assoc, inl, inr, subst, sym, refl, ap, ◌∙◌}
 use Rattle.std.specs.Prelude.{IfSome, IsSome, ◌==◌, if◌then◌else◌, unwrap_or, slice_index}
 use Rattle.std.specs.Option.{option_or}
 use Rattle.std.proofs.lemmas.Bool.{cases_eq, eq-eqb, false≢true, ne_eqb}
@@ -7,8 +7,9 @@ use Rattle.tc_copy.specs.declared.marks.Marks.{Marks}
 use Rattle.tc_copy.specs.declared.marks.LogMark.{LogMark}
 use Rattle.tc_copy.specs.Marks.{IsOneState, IsSameFile, IsSameLog, head_of}
 use Rattle.tc_copy.specs.Files.{AllHappen, Event, Files, Frame, after, after_all, committed, emptied, filled, newest, recovered}
-use Rattle.tc_copy.specs.Copies.{AreRead, CopiesWhatStands, Fills}
-use Rattle.tc_copy.proofs.RunLemmas.{Empties, IsOther, nothing_happened, other_emptied}
+use Rattle.tc_copy.specs.Copies.{AreRead, CopiesMoment, Fills, joined}
+use Rattle.tc_copy.proofs.RunLemmas.{Empties, IsOther, empties_first, empties_last, nothing_happened, other_emptied}
+use Rattle.tc_copy.proofs.LogLemmas.{after_both, moment_of_log}
 
 -- ---- the log
 
@@ -118,13 +119,39 @@ all_first : (before : Marks) (files : Files) (first rest : List Event) → AllHa
 all_first before files [] rest happen = tt
 all_first before files (event ∷ first) rest happen = (happen.0, all_first before (after files event) first rest happen.1)
 
-empties_first : (first rest : List Event) → Empties first → Empties (first ++ rest)
-empties_first [] rest empties = absurd empties
-empties_first (committed frames marks ∷ first) rest empties = empties_first first rest empties
-empties_first (filled page marks ∷ first) rest empties = empties_first first rest empties
-empties_first (emptied marks ∷ first) rest empties = tt
+fills_first : (page : ℕ) (first rest : List Event) → Fills page first → Fills page (first ++ rest)
+fills_first page [] rest fills = absurd fills
+fills_first page (committed frames marks ∷ first) rest fills = fills_first page first rest fills
+fills_first page (filled other marks ∷ first) rest (inl same) = inl same
+fills_first page (filled other marks ∷ first) rest (inr later) = inr (fills_first page first rest later)
+fills_first page (emptied marks ∷ first) rest fills = fills_first page first rest fills
 
-pub copies : (before behind : Marks) → IsOneState before behind → CopiesWhatStands before behind
-copies before behind one files first rest pages begins happen ends read page =
-    as_it_stands before files first pages (all_first before files first rest happen)
-    (λ empties. not_emptied before behind files (first ++ rest) one.1 happen ends (empties_first first rest empties)) read page
+all_both : (before : Marks) (files : Files) (first rest : List Event) → AllHappen before files first → AllHappen before (after_all files first) rest
+    → AllHappen before files (first ++ rest)
+all_both before files [] rest happen later = later
+all_both before files (event ∷ first) rest happen later = (happen.0, all_both before (after files event) first rest happen.1 later)
+
+-- the pages are those of the file, the log is read while it grows, and the second marks are of one state with the first
+pub copies : (before behind : Marks) → IsOneState before behind → CopiesMoment before behind
+copies before behind one files copy begins events pages happen read waits frames grow takes others last ends =
+    let during = joined waits in
+    let all : AllHappen before files ((events ++ during) ++ others) =
+    all_both before files (events ++ during) others (all_both before files events during happen grow) last in
+    let full : ¬ Empties ((events ++ during) ++ others) = not_emptied before behind files ((events ++ during) ++ others) one.1 all ends in
+    let moment = moment_of_log (after_all files events) zero waits frames
+    (λ empties. full (empties_first (events ++ during) others (empties_last events during empties))) takes in
+    let first = moment.0 in
+    let rest = moment.1 in
+    let parts : during ≡ first ++ rest = moment.2 in
+    let grown : AllHappen before (after_all files events) first =
+    all_first before (after_all files events) first rest (subst (λ (l : List Event). AllHappen before (after_all files events) l) parts grow) in
+    let till : AllHappen before files (events ++ first) = all_both before files events first happen grown in
+    let none : ¬ Empties (events ++ first) = λ empties. full (empties_first (events ++ during) others
+    (subst (λ (l : List Event). Empties l) (append_assoc events first rest ∙ ap (λ (l : List Event). events ++ l) (sym parts)) (empties_first (events ++ first) rest empties))) in
+    let log : (after_all files (events ++ first)).log ≡ frames = ap (λ (f : Files). f.log) (after_both files events first) ∙ moment.3 in
+    let stood = as_it_stands before files (events ++ first) pages till none (λ page not. read page (λ fills. not (fills_first page events first fills))) in (
+      events ++ first,
+      rest ++ others,
+      ap (λ (l : List Event). (events ++ l) ++ others) parts ∙ ap (λ (l : List Event). l ++ others) (sym (append_assoc events first rest)) ∙ append_assoc (events ++ first) rest others,
+      λ page. subst (λ (l : List Frame). recovered pages l page ≡ recovered (after_all files (events ++ first)).file (after_all files (events ++ first)).log page) log (stood page),
+    )

@@ -1,3 +1,5 @@
 mod RunLemmas
+mod LogLemmas
 mod CopyLemmas
 mod MixLemmas
+mod TryLemmas

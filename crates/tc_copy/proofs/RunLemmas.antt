@@ -1,5 +1,5 @@
 -- What a run leaves of the marks that were read before it: the log that is emptied in it does not stand under their head again.
-use Rattle.std.proofs.Common.{◌≡◌, ◌≢◌, ℕ, List, [], ◌∷◌, Option, Some, subst, sym}
+use Rattle.std.proofs.Common.{◌≡◌, ◌≢◌, ℕ, List, [], ◌∷◌, ◌++◌, Option, Some, subst, sym}
 use Rattle.std.specs.Prelude.{IfSome, ⊤}
 use Rattle.tc_copy.specs.declared.marks.Marks.{Marks}
 use Rattle.tc_copy.specs.Marks.{head_of}
@@ -14,6 +14,18 @@ abbrev pub Empties : List Event → Type 0
 Empties [] = ⊥
 Empties (emptied marks ∷ events) = ⊤
 Empties (other ∷ events) = Empties events
+
+pub empties_first : (first rest : List Event) → Empties first → Empties (first ++ rest)
+empties_first [] rest empties = absurd empties
+empties_first (committed frames marks ∷ first) rest empties = empties_first first rest empties
+empties_first (filled page marks ∷ first) rest empties = empties_first first rest empties
+empties_first (emptied marks ∷ first) rest empties = tt
+
+pub empties_last : (first rest : List Event) → Empties rest → Empties (first ++ rest)
+empties_last [] rest empties = empties
+empties_last (committed frames marks ∷ first) rest empties = empties_last first rest empties
+empties_last (filled page marks ∷ first) rest empties = empties_last first rest empties
+empties_last (emptied marks ∷ first) rest empties = tt
 
 -- a head that stays is other as long
 stays_other : (before old new : Marks) → head_of new.log ≡ head_of old.log → IsOther before old → IsOther before new

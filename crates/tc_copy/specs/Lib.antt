@@ -1,4 +1,6 @@
 pub mod Pairs
 pub mod Marks
 pub mod Files
+pub mod Asked
 pub mod Copies
+pub mod Tries

@@ -5,9 +5,11 @@
 //! from the desk's own files, had the desk crashed when its log was read.
 #![tactic(auto)]
 
+mod copying;
 pub mod laws;
 mod marks;
 mod pairs;
 
+pub use copying::{DeskFiles, MOST_COPIES, Reading, copy_files};
 pub use marks::{FileStamp, LogMark, Marks, is_one_state, is_same_file};
 pub use pairs::{Unpaired, why_unpaired};

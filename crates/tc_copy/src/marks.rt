@@ -1,6 +1,6 @@
 //! The marks of a desk's two files, and whether two readings of them are of one state.
 ghost use Rattle.std.specs.Prelude.{◌≡◌, ◌⊎◌, ◌↔◌, IsTrue};
-ghost use Rattle.tc_copy.specs.Copies.{CopiesWhatStands};
+ghost use Rattle.tc_copy.specs.Copies.{CopiesMoment};
 ghost use Rattle.tc_copy.specs.Marks.{IsOneState, IsSameFile, IsSameLog, Stands};
 
 use crate::pairs::why_unpaired;
@@ -121,7 +121,7 @@ fn are_of_one(before: &Marks, after: &Marks) -> bool
 /// or the marks are the same in all that they tell, so that nothing was written.
 pub fn is_one_state(before: &Marks, after: &Marks) -> bool
     ensures told { IsTrue result ↔ IsOneState before.now after.now }
-    ensures copied { IsTrue result → CopiesWhatStands before.now after.now }
+    ensures copied { IsTrue result → CopiesMoment before.now after.now }
 {
     are_of_one(before, after)
 }

@@ -50,7 +50,7 @@ use Rattle.tc_desk.proofs.RollOfLemmas.{BookStays, same_stays, flown_grows, grow
 -- ---- the book
 
 -- what the book says of those that were sent stays
-does_stay : {U D : Type 0} (up : Kind U Frame) (down : Kind D Report) (o : ℕ) (stamp : Stamp) (given : Act) (old new : State U D) (all : List LinkIndication) (first : FirstLine)
+pub does_stay : {U D : Type 0} (up : Kind U Frame) (down : Kind D Report) (o : ℕ) (stamp : Stamp) (given : Act) (old new : State U D) (all : List LinkIndication) (first : FirstLine)
     → IsGoodBook old.book → refusal_of stamp old given ≡ None → IsTied o old → Does up down stamp given old new all first → BookStays old.book new.book (all_sent old.world)
 does_stay up down o stamp (act.Book given) old new all first good passes tied does =
     let alone : new.book ≡ book_acted stamp given old.book = does.book ∙ ap (λ (l : List LinkIndication). heard_all stamp old.mirror l (book_acted stamp given old.book)) does.link.3 in
@@ -59,6 +59,14 @@ does_stay up down o stamp (act.Book given) old new all first good passes tied do
 does_stay up down o stamp (act.Link given) old new all first good passes tied does = same_stays old.book new.book (all_sent old.world) (link_requests stamp given old new all does.book)
 does_stay up down o stamp (act.Step given) old new all first good passes tied does = same_stays old.book new.book (all_sent old.world) (step_requests stamp given old new all does.book)
 does_stay {U} {D} up down o stamp (act.Ask asked) old new all first good passes tied does = same_stays old.book new.book (all_sent old.world) (ap (λ (at : State U D). at.book.requests) does.link.0)
+
+-- What flies after it, and what was told, is what the book says of it then.
+pub does_carry : {U D : Type 0} (up : Kind U Frame) (down : Kind D Report) (stamp : Stamp) (given : Act) (old new : State U D) (all : List LinkIndication) (first : FirstLine)
+    → OnlyLoses up → OnlyLoses down → BookStays old.book new.book (all_sent old.world) → Does up down stamp given old new all first
+    → AreCarried (IsPayloadOf old.book) (seen up down old.world) → CarriedOn (IsPayloadOf new.book) up down old.world new.world all
+does_carry up down stamp given old new all first losing_up losing_down stays does payloads =
+    goes_on_carried (IsPayloadOf new.book) up down losing_up losing_down given old new all (λ n r here. stays.payload n _ (r, here, refl)) does.link
+    (payloads_weaker (IsPayloadOf old.book) (IsPayloadOf new.book) (seen up down old.world) stays.payload payloads)
 
 -- ---- what is read
 
@@ -126,8 +134,7 @@ does_followed {U} {D} up down stamp given old new all first steps losing_up losi
     stays = does_stay up down old.opened stamp given old.parts new.parts all first good passes tied does
 
     carried : CarriedOn (IsPayloadOf book_after) up down old.parts.world new.parts.world all
-    carried = goes_on_carried (IsPayloadOf book_after) up down losing_up losing_down given old.parts new.parts all (λ n r here. stays.payload n _ (r, here, refl)) does.link
-        (payloads_weaker (IsPayloadOf book) (IsPayloadOf book_after) (seen up down old.parts.world) stays.payload followed.payloads)
+    carried = does_carry up down stamp given old.parts new.parts all first losing_up losing_down stays does followed.payloads
 
     agrees : Agrees K (roll_of book sent) (roll_of book_after sent_after)
     agrees = subst (λ (l : List ℕ). Agrees K (roll_of book sent) (roll_of book_after l)) (sym carried.sent)

@@ -1,7 +1,7 @@
 -- What comes on board is what the FARM accepted; which starts were good; and what the rows say while all were.
 use Rattle.std.proofs.Common.{◌≡◌, ℕ, inl, inr, Bool, true, false, Option, Some, None, List, [], ◌∷◌, ◌++◌, map, fold, refl, sym, ◌∙◌, ap, subst, append-nil}
 use Rattle.std.specs.Prelude.{MatchBool}
-use Rattle.std.specs.List.{flat_map}
+use Rattle.std.specs.List.{flat_map, AllByRecursion}
 use Rattle.tc_types.specs.declared.link.frames.Frame.{Frame}
 use Rattle.tc_types.specs.declared.link.directives.Directive.{Directive}
 use Rattle.tc_types.specs.declared.link.reports.Report.{Report}
@@ -25,6 +25,7 @@ use Rattle.tc_world.specs.declared.events.LinkIndication.{LinkIndication}
 use Rattle.tc_world.specs.declared.events.LinkIndication.TheVariants as said
 use Rattle.tc_world.specs.Links.{Kind}
 use Rattle.tc_world.specs.Logs.{Log}
+use Rattle.tc_world.specs.Payloads.{IsToldOf}
 use Rattle.tc_world.specs.Sublist.{IsSublist}
 use Rattle.tc_world.specs.Telling.{accepted_said}
 use Rattle.tc_world.specs.Window.{ArePrefixed, IsClaimed, all_accepted}
@@ -33,7 +34,7 @@ use Rattle.tc_world.proofs.Lists.{sublist_trans, sublist_both, sublist_take}
 use Rattle.tc_world.proofs.Stills.{clean_is}
 use Rattle.tc_board.specs.Board.{BoardState, accepted}
 use Rattle.tc_book.specs.declared.stamps.Stamp.{Stamp}
-use Rattle.tc_book.specs.Book.{request_at}
+use Rattle.tc_book.specs.Book.{Book, request_at}
 use Rattle.tc_book.specs.Logs.{released_with}
 use Rattle.tc_desk.specs.declared.firsts.FirstLine.{FirstLine}
 use Rattle.tc_desk.specs.State.{State}
@@ -42,6 +43,7 @@ use Rattle.tc_desk.specs.Machine.{Happened, Passes, PutsDown, Reports, Flies, Fl
 use Rattle.tc_desk.specs.Parts.{event_beside}
 use Rattle.tc_desk.specs.Rows.{confirm_rows}
 use Rattle.tc_desk.specs.Tied.{IsTied}
+use Rattle.tc_desk.specs.Followed.{IsPayloadOf, IsTelecommandOf}
 use Rattle.tc_desk.specs.Headline.{TakesAccepted, clean_asked, clean_after}
 use Rattle.tc_desk.specs.Promise.{TakenOnce}
 
@@ -142,44 +144,57 @@ board_takes : (taken : Option Telecommand) (board : BoardState) → board_after 
 board_takes None board = refl
 board_takes (Some t) board = refl
 
-flight_takes : {U D : Type 0} (up : Kind U Frame) (down : Kind D Report) (given : LinkAct) (old new : State U D) (all : List LinkIndication) → Flies up down given old new all → TakesAccepted (act.Link given) old new
-flight_takes up down (link_act.Release n) old new all flies = record { taken = []; written = none_taken old.world new.world (offer_none up down n old new all (request_at old.book n) flies.0); board = flies.1 }
-flight_takes up down (link_act.Direct given) old new all flies = record { taken = []; written = none_taken old.world new.world (happened_none up down (event.Directive given) old.world new.world all refl flies.0); board = flies.1 }
-flight_takes up down link_act.Tick old new all flies = record { taken = []; written = none_taken old.world new.world (happened_none up down event.Tick old.world new.world all refl flies.0); board = flies.1 }
-flight_takes up down link_act.Up old new all flies =
+-- what the link tells to be accepted is what the book makes of it
+pub told_bodies : (book : Book) (sent : List ℕ) (all : List LinkIndication) → AllByRecursion (IsToldOf (IsPayloadOf book) sent) all → AllByRecursion (IsTelecommandOf book) (option_list (taken_in all))
+told_bodies book sent [] told = tt
+told_bodies book sent (said.Fop i ∷ others) told = tt
+told_bodies book sent (said.Farm (verdict.Accepted n body) ∷ others) told = (told.0.0, tt)
+told_bodies book sent (said.Farm verdict.Discarded ∷ others) told = tt
+told_bodies book sent (said.Farm verdict.Control ∷ others) told = tt
+told_bodies book sent (said.Received item ∷ others) told = tt
+told_bodies book sent (said.Lost ∷ others) told = tt
+told_bodies book sent (said.Transmitted frame ∷ others) told = tt
+
+flight_takes : {U D : Type 0} (up : Kind U Frame) (down : Kind D Report) (given : LinkAct) (old new : State U D) (all : List LinkIndication) → Flies up down given old new all → AllByRecursion (IsTelecommandOf new.book) (option_list (taken_in all)) → TakesAccepted (act.Link given) old new
+flight_takes up down (link_act.Release n) old new all flies bodies = record { taken = []; bodies = tt; written = none_taken old.world new.world (offer_none up down n old new all (request_at old.book n) flies.0); board = flies.1 }
+flight_takes up down (link_act.Direct given) old new all flies bodies = record { taken = []; bodies = tt; written = none_taken old.world new.world (happened_none up down (event.Directive given) old.world new.world all refl flies.0); board = flies.1 }
+flight_takes up down link_act.Tick old new all flies bodies = record { taken = []; bodies = tt; written = none_taken old.world new.world (happened_none up down event.Tick old.world new.world all refl flies.0); board = flies.1 }
+flight_takes up down link_act.Up old new all flies bodies =
     let frame = flies.frame in
     record {
       taken = option_list (taken_in all);
+      bodies = bodies;
       written = puts_none up down (reports_after (taken_in all)) flies.carried new.world flies.reports
           ∙ frame.tells.accepted
           ∙ ap (λ l. l ++ taken_said all) (before_none up down old.world flies.ready flies.readied)
           ∙ ap (λ l. all_accepted old.world ++ l) (takes_one up down (has_buffer old.board) flies.ready flies.carried all frame.happens);
       board = flies.board ∙ board_takes (taken_in all) old.board;
     }
-flight_takes up down (link_act.LoseUp place) old new all flies = record { taken = []; written = none_taken old.world new.world (happened_none up down (event.LoseUp place) old.world new.world all refl flies.0); board = flies.1 }
-flight_takes up down (link_act.LoseDown place) old new all flies = record { taken = []; written = none_taken old.world new.world (happened_none up down (event.LoseDown place) old.world new.world all refl flies.0); board = flies.1 }
-flight_takes up down link_act.Clcw old new all flies = record { taken = []; written = none_taken old.world new.world (happened_none up down event.Clcw old.world new.world all refl flies.0); board = flies.1 }
-flight_takes up down link_act.Down old new all flies = record { taken = []; written = none_taken old.world new.world (happened_none up down event.Downlink old.world new.world all refl flies.0); board = flies.1 }
-flight_takes up down link_act.Work old new all flies = record {
+flight_takes up down (link_act.LoseUp place) old new all flies bodies = record { taken = []; bodies = tt; written = none_taken old.world new.world (happened_none up down (event.LoseUp place) old.world new.world all refl flies.0); board = flies.1 }
+flight_takes up down (link_act.LoseDown place) old new all flies bodies = record { taken = []; bodies = tt; written = none_taken old.world new.world (happened_none up down (event.LoseDown place) old.world new.world all refl flies.0); board = flies.1 }
+flight_takes up down link_act.Clcw old new all flies bodies = record { taken = []; bodies = tt; written = none_taken old.world new.world (happened_none up down event.Clcw old.world new.world all refl flies.0); board = flies.1 }
+flight_takes up down link_act.Down old new all flies bodies = record { taken = []; bodies = tt; written = none_taken old.world new.world (happened_none up down event.Downlink old.world new.world all refl flies.0); board = flies.1 }
+flight_takes up down link_act.Work old new all flies bodies = record {
   taken = [];
+  bodies = tt;
   written = none_taken old.world new.world (happened_none up down event.Release flies.reported new.world [] refl flies.free ∙ reports_none up down _ old.world flies.reported flies.reports);
   board = flies.board;
 }
-flight_takes up down (link_act.Clock time) old new all flies = record { taken = []; written = none_taken old.world new.world (reports_none up down flies.items old.world new.world flies.reports); board = flies.board }
+flight_takes up down (link_act.Clock time) old new all flies bodies = record { taken = []; bodies = tt; written = none_taken old.world new.world (reports_none up down flies.items old.world new.world flies.reports); board = flies.board }
 
 -- a step, and the release that comes with it, if one does
 beside_takes : {U D : Type 0} (up : Kind U Frame) (down : Kind D Report) (given : StepAct) (beside : Option ℕ) (old new : State U D) (all : List LinkIndication) → FliesBeside up down beside old new all → TakesAccepted (act.Step given) old new
-beside_takes {U} {D} up down given None old new all stands = record { taken = []; written = none_taken old.world new.world (ap (λ (x : Whole U D). all_accepted x) stands.0); board = stands.1 }
-beside_takes up down given (Some n) old new all flies = record { taken = []; written = none_taken old.world new.world (offer_none up down n old new all (request_at old.book n) flies.0); board = flies.1 }
+beside_takes {U} {D} up down given None old new all stands = record { taken = []; bodies = tt; written = none_taken old.world new.world (ap (λ (x : Whole U D). all_accepted x) stands.0); board = stands.1 }
+beside_takes up down given (Some n) old new all flies = record { taken = []; bodies = tt; written = none_taken old.world new.world (offer_none up down n old new all (request_at old.book n) flies.0); board = flies.1 }
 
--- an act gives the spacecraft what it adds to the accepted
+-- an act gives the spacecraft what it adds to the accepted, where what is told is what the book makes of it
 pub does_take : {U D : Type 0} (up : Kind U Frame) (down : Kind D Report) (stamp : Stamp) (given : Act) (old new : State U D) (all : List LinkIndication) (first : FirstLine)
-    → Does up down stamp given old new all first → TakesAccepted given old new
-does_take {U} {D} up down stamp (act.Book given) old new all first does = record { taken = []; written = none_taken old.world new.world (ap (λ (x : Whole U D). all_accepted x) does.link.0); board = does.link.1 }
-does_take up down stamp (act.Link given) old new all first does = flight_takes up down given old new all does.link
-does_take up down stamp (act.Step given) old new all first does = beside_takes up down given (released_with old.book given) old new all does.link
-does_take {U} {D} up down stamp (act.Ask asked) old new all first does =
-    record { taken = []; written = none_taken old.world new.world (ap (λ (at : State U D). all_accepted at.world) does.link.0); board = ap (λ (at : State U D). at.board) does.link.0 }
+    → Does up down stamp given old new all first → AllByRecursion (IsTelecommandOf new.book) (option_list (taken_in all)) → TakesAccepted given old new
+does_take {U} {D} up down stamp (act.Book given) old new all first does bodies = record { taken = []; bodies = tt; written = none_taken old.world new.world (ap (λ (x : Whole U D). all_accepted x) does.link.0); board = does.link.1 }
+does_take up down stamp (act.Link given) old new all first does bodies = flight_takes up down given old new all does.link bodies
+does_take up down stamp (act.Step given) old new all first does bodies = beside_takes up down given (released_with old.book given) old new all does.link
+does_take {U} {D} up down stamp (act.Ask asked) old new all first does bodies =
+    record { taken = []; bodies = tt; written = none_taken old.world new.world (ap (λ (at : State U D). all_accepted at.world) does.link.0); board = ap (λ (at : State U D). at.board) does.link.0 }
 
 -- ---- good starts
 

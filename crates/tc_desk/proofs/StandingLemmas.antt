@@ -9,6 +9,7 @@ use Rattle.tc_types.specs.declared.acts.Act.{Act}
 use Rattle.tc_world.specs.declared.events.LinkIndication.{LinkIndication}
 use Rattle.tc_world.specs.Links.{Kind}
 use Rattle.tc_world.specs.Window.{IsClaimed}
+use Rattle.tc_world.specs.World.{all_sent}
 use Rattle.tc_world.proofs.Bridge.{OnlyLoses}
 use Rattle.tc_board.specs.Schedule.{ScheduleState, IsSchedule, summary_of}
 use Rattle.tc_board.specs.Mirror.{MirrorState, mirror_after, mirror_of}
@@ -23,20 +24,31 @@ use Rattle.tc_desk.specs.Downlink.{came_down, KeepsWhole}
 use Rattle.tc_desk.specs.Followed.{mirror_through}
 use Rattle.tc_desk.specs.State.{new_desk, State, DeskState}
 use Rattle.tc_desk.specs.Acts.{refusal_of}
+use Rattle.tc_desk.specs.Headline.{TakesAccepted}
 use Rattle.tc_desk.specs.Machine.{Does, StaysSame}
 use Rattle.tc_desk.specs.Promise.{KeepsPromise, TakenOnce}
 use Rattle.tc_desk.specs.Tied.{IsTied}
 use Rattle.tc_desk.specs.Standing.{IsStanding, StaysTrue}
 use Rattle.tc_desk.proofs.DownLemmas.{does_down}
 use Rattle.tc_desk.proofs.FollowLaws.{FollowsSteps}
-use Rattle.tc_desk.proofs.FollowedActs.{does_followed, same_followed, over_followed}
+use Rattle.tc_desk.proofs.FollowedActs.{does_stay, does_carry, does_followed, same_followed, over_followed}
 use Rattle.tc_desk.proofs.ReadActs.{does_read}
 use Rattle.tc_desk.proofs.NewLemmas.{over_tied, new_claims}
 use Rattle.tc_desk.proofs.TiedActs.{does_tied, same_tied}
 use Rattle.tc_book.proofs.ConservedLemmas.{conserved}
 use Rattle.tc_desk.proofs.GivenLemmas.{does_give, same_gives}
-use Rattle.tc_desk.proofs.HeadlineLemmas.{does_take, same_claims, taken_once}
+use Rattle.tc_desk.proofs.HeadlineLemmas.{does_take, told_bodies, same_claims, taken_once}
+use Rattle.tc_desk.proofs.RollOfLemmas.{BookStays}
 use Rattle.tc_desk.proofs.FairLemmas.{Fits, new_fits, before_fits, does_fit}
+
+-- what an act gives the spacecraft is what the book makes of it
+pub does_take_known : {U D : Type 0} (up : Kind U Frame) (down : Kind D Report) (stamp : Stamp) (given : Act) (old new : DeskState U D) (all : List LinkIndication) (first : FirstLine)
+    → OnlyLoses up → OnlyLoses down → IsGoodBook old.parts.book → refusal_of stamp old.parts given ≡ None → Does up down stamp given old.parts new.parts all first
+    → IsStanding up down old → TakesAccepted given old.parts new.parts
+does_take_known up down stamp given old new all first ul dl good passes does stands =
+    let stays : BookStays old.parts.book new.parts.book (all_sent old.parts.world) = does_stay up down old.opened stamp given old.parts new.parts all first good passes stands.tied does in
+    does_take up down stamp given old.parts new.parts all first does
+    (told_bodies new.parts.book (all_sent new.parts.world) all (does_carry up down stamp given old.parts new.parts all first ul dl stays does stands.followed.payloads).told)
 
 -- an act that was carried out
 pub does_stand : {U D : Type 0} (up : Kind U Frame) (down : Kind D Report) (stamp : Stamp) (given : Act) (old new : DeskState U D) (all : List LinkIndication) (first : FirstLine)
@@ -45,6 +57,7 @@ pub does_stand : {U D : Type 0} (up : Kind U Frame) (down : Kind D Report) (stam
     → (new.parts.world.clean ≡ true → IsClaimed new.parts.world) → KeepsWhole down given old new all → IsStanding up down old → IsStanding up down new
 does_stand up down stamp given old new all first law ul dl good goes_on passes does opened claims whole stands =
     let fits : Fits new.parts.world = does_fit up down stamp given old.parts new.parts all first passes does (stands.fits, stands.open_farm) in
+    let stays : BookStays old.parts.book new.parts.book (all_sent old.parts.world) = does_stay up down old.opened stamp given old.parts new.parts all first good passes stands.tied does in
     let tied : IsTied new.opened new.parts = subst (λ o. IsTied o new.parts) (sym opened) (does_tied old.opened up down stamp given old.parts new.parts all first good passes does stands.tied) in
     record {
       tied = tied;
@@ -52,7 +65,7 @@ does_stand up down stamp given old new all first law ul dl good goes_on passes d
       claims = claims;
       fits = fits.0;
       open_farm = fits.1;
-      given = does_give given old.parts new.parts (does_take up down stamp given old.parts new.parts all first does) stands.given;
+      given = does_give given old.parts new.parts stays.payload (does_take_known up down stamp given old new all first ul dl good passes does stands) stands.given;
       followed = does_followed up down stamp given old new all first law ul dl good goes_on passes does stands.tied tied whole (does_down up down ul dl stamp given old.parts new.parts all first does) stands.followed;
     }
 
@@ -101,7 +114,7 @@ over_stands up down config book u d empty_up empty_down good = record {
   claims = λ clean. new_claims config u d;
   fits = (new_fits config u d).0;
   open_farm = (new_fits config u d).1;
-  given = record { came = []; requests = refl; board = refl };
+  given = record { came = []; requests = refl; bodies = tt; board = refl };
   followed = over_followed up down config book (length book.history) u d empty_up empty_down;
 }
 

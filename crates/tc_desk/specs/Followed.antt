@@ -7,6 +7,7 @@ use Rattle.tc_types.specs.declared.link.reports.Report.TheVariants as report
 use Rattle.tc_types.specs.declared.requests.Identity.{Identity}
 use Rattle.tc_types.specs.declared.requests.Request.{Request}
 use Rattle.tc_types.specs.declared.link.telecommands.Payload.{Payload}
+use Rattle.tc_types.specs.declared.link.telecommands.Telecommand.{Telecommand}
 use Rattle.tc_world.specs.Abstraction.{seen}
 use Rattle.tc_world.specs.Links.{Kind}
 use Rattle.tc_world.specs.Payloads.{IsOneOf, AreCarried}
@@ -37,6 +38,14 @@ roll_of book sent = record {
 -- what flies of a request is what the book says of it
 abbrev pub IsPayloadOf : Book → ℕ → Payload → Type 0
 IsPayloadOf book n body = (request : Request) × (request_at book n ≡ Some request) × (body ≡ payload_of book request.body)
+
+-- the part of a telecommand that flew
+abbrev pub payload_in : Telecommand → Payload
+payload_in t = record { identity = t.identity; ack = t.ack; task = t.task }
+
+-- a telecommand is the one that the book makes of the request with its number: its identity, its reports, and what it asks
+abbrev pub IsTelecommandOf : Book → Telecommand → Type 0
+IsTelecommandOf book t = IsPayloadOf book t.request (payload_in t)
 
 -- a request that is one of these that were sent, or rides inside one of them
 abbrev pub IsFlown : Book → List ℕ → ℕ → Type 0

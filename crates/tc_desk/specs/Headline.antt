@@ -1,5 +1,6 @@
 -- What an act gives the spacecraft, and which starts are good.
 use Rattle.std.specs.Prelude.{◌≡◌, ◌++◌, Bool, Option, Some, None, List, map, fold}
+use Rattle.std.specs.List.{AllByRecursion}
 use Rattle.tc_types.specs.declared.link.frames.Frame.{Frame}
 use Rattle.tc_types.specs.declared.link.reports.Report.{Report}
 use Rattle.tc_types.specs.declared.link.telecommands.Telecommand.{Telecommand}
@@ -12,6 +13,7 @@ use Rattle.tc_world.specs.Links.{Kind}
 use Rattle.tc_world.specs.Window.{all_accepted}
 use Rattle.tc_world.specs.World.{Whole, clean_by}
 use Rattle.tc_board.specs.Board.{BoardState, accepted, worked, clocked}
+use Rattle.tc_desk.specs.Followed.{IsTelecommandOf}
 use Rattle.tc_desk.specs.State.{State}
 use Rattle.tc_desk.specs.Parts.{event_asked}
 
@@ -36,10 +38,11 @@ board_by (act.Link given) board = board_in_flight given board
 board_by (act.Step given) board = board
 board_by (act.Ask asked) board = board
 
--- The requests that an act adds to those that the FARM accepted are given to the spacecraft, each once, in order, and no others
--- are.
+-- The requests that an act adds to those that the FARM accepted are given to the spacecraft, each once, in order, as the book has
+-- them, and no others are.
 pub record TakesAccepted {U D : Type 0} (given : Act) (old new : State U D) : Type 0 where
   pub taken : List Telecommand
+  pub bodies : AllByRecursion (IsTelecommandOf new.book) taken
   pub written : all_accepted new.world ≡ all_accepted old.world ++ map (λ (t : Telecommand). t.request) taken
   pub board : new.board ≡ board_by given (fold (λ (board : BoardState) (t : Telecommand). accepted t board) old.board taken)
 

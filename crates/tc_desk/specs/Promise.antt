@@ -1,5 +1,6 @@
--- The promise of README.md: each of its sentences stands over the field that says it.
-use Rattle.std.specs.Prelude.{◌≡◌, ℕ, true, false, List, [], ◌∷◌, fold}
+-- What is true of a desk at any moment. The first promise of README.md is the fields `places`, `moves` and `once` of `KeepsPromise`.
+use Rattle.std.specs.Prelude.{◌≡◌, ℕ, true, false, List, [], ◌∷◌, map, fold}
+use Rattle.std.specs.List.{AllByRecursion}
 use Rattle.tc_types.specs.declared.link.reports.Report.{Report}
 use Rattle.tc_types.specs.declared.link.telecommands.Telecommand.{Telecommand}
 use Rattle.tc_types.specs.History.{IsGoodHistory}
@@ -10,7 +11,7 @@ use Rattle.tc_world.specs.Window.{Distinct, IsClaimed, all_accepted, all_confirm
 use Rattle.tc_world.specs.World.{all_sent}
 use Rattle.tc_board.specs.Board.{BoardState, accepted, clocked, new_board, worked}
 use Rattle.tc_book.specs.Conserved.{IsConserved}
-use Rattle.tc_desk.specs.Followed.{IsMirrored}
+use Rattle.tc_desk.specs.Followed.{IsMirrored, IsTelecommandOf}
 use Rattle.tc_desk.specs.Rows.{confirm_rows, transmit_rows}
 use Rattle.tc_desk.specs.State.{DeskState, State}
 
@@ -28,24 +29,29 @@ board_with board (given telecommand) = accepted telecommand board
 board_with board works = worked board board.buffer
 board_with board (reaches time) = clocked time board
 
--- the requests of the telecommands among these, in order
-abbrev pub given_in : List Coming → List ℕ
-given_in [] = []
-given_in (given telecommand ∷ others) = telecommand.request ∷ given_in others
-given_in (works ∷ others) = given_in others
-given_in (reaches time ∷ others) = given_in others
+-- the telecommands among these, in order
+abbrev pub telecommands_in : List Coming → List Telecommand
+telecommands_in [] = []
+telecommands_in (given telecommand ∷ others) = telecommand ∷ telecommands_in others
+telecommands_in (works ∷ others) = telecommands_in others
+telecommands_in (reaches time ∷ others) = telecommands_in others
 
--- Since the desk was made the spacecraft was given each request that the FARM accepted, as often as it was accepted, in that order, and no other.
+-- Since the desk was made the spacecraft was given the telecommand of each request that the FARM accepted, as often as it was accepted, in that
+-- order, and no other.
 pub record GivesAccepted {U D : Type 0} (at : State U D) : Type 0 where
   -- all that came to the spacecraft
   pub came : List Coming
-  pub requests : given_in came ≡ all_accepted at.world
+  -- the telecommands have the numbers of the requests that the FARM accepted
+  pub requests : map (λ (t : Telecommand). t.request) (telecommands_in came) ≡ all_accepted at.world
+  -- and each is the one that the book makes of that request
+  pub bodies : AllByRecursion (IsTelecommandOf at.book) (telecommands_in came)
+  -- the spacecraft is what all of it made of a new one
   pub board : at.board ≡ fold board_with (new_board 0) came
 
 -- ---- what a row that says Confirmed means
 
--- Each request that a row since then calls confirmed was accepted on board; none was accepted twice; and they were accepted in the order
--- of the rows of their transmission.
+-- Of the rows that came after the first `opened`: each request that one of them calls confirmed was accepted on board; none was accepted
+-- twice; and they were accepted in the order of the rows of their transmission.
 pub record TakenOnce {U D : Type 0} (opened : ℕ) (at : State U D) : Type 0 where
   pub accepted : IsSublist (confirm_rows opened at.book) (all_accepted at.world)
   pub once : Distinct (all_accepted at.world)
@@ -69,7 +75,7 @@ pub record KeepsPromise {U D : Type 0} (down : Kind D Report) (desk : DeskState 
   pub once : desk.parts.world.clean ≡ true → TakenOnce desk.opened desk.parts
   -- .. and the FARM is not in Lockout.
   pub open_farm : desk.parts.world.clean ≡ true → is_locked_out desk.parts.world.farm.state ≡ false
-  -- The spacecraft was given what the FARM accepted, and nothing else.
+  -- The spacecraft was given the telecommands of the requests that the FARM accepted, as the book has them, in order, and no others.
   pub given : GivesAccepted desk.parts
   -- While nothing of the downlink was lost, the schedule that the desk shows is the one on board, once what flies is read.
   pub mirror : IsMirrored down desk

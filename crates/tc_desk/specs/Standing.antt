@@ -21,7 +21,7 @@ pub record IsStanding {U D : Type 0} (up : Kind U Frame) (down : Kind D Report) 
   -- K fitted at every moment, so that while every start was good the FARM is not in Lockout
   pub fits : desk.parts.world.fits ≡ true
   pub open_farm : IsOpen desk.parts
-  -- the spacecraft was given what the FARM accepted, and nothing else
+  -- the spacecraft was given what the FARM accepted, as the book has it, and nothing else
   pub given : GivesAccepted desk.parts
   -- while nothing of the downlink was lost, the mirror follows the spacecraft
   pub followed : IsFollowed up down desk

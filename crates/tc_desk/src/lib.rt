@@ -12,7 +12,6 @@ mod downlinks;
 mod firsts;
 mod flights;
 mod hearing;
-pub mod laws;
 mod moving;
 mod parts;
 mod reopening;

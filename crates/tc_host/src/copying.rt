@@ -1,4 +1,5 @@
-//! The copying of a desk's two files while the desk may run: again and again, until what was read of them is of one state.
+//! The copying of a desk's two files on this machine while the desk may run.
+ghost use Rattle.std.specs.Prelude.{⊤};
 
 use crate::because::Because;
 use crate::marking::{opened, read_marks};
@@ -7,7 +8,7 @@ use std::alloc::AllocError;
 use std::time::Duration;
 use std::{fs, io, thread};
 use tc_closed::{PathFault, ScriptFault};
-use tc_copy::{Unpaired, is_one_state, why_unpaired};
+use tc_copy::{DeskFiles, Marks, Reading};
 
 /// A file by its name: that of a database, or what stands beside it.
 #[derive(Clone, Copy, Debug, PartialEq, Eq)]
@@ -70,9 +71,7 @@ impl From<ScriptFault> for CopyFault {
     }
 }
 
-/// How often it is tried to copy a desk, and how many milliseconds lie between two tries.
-pub const MOST_COPIES: u32 = 100;
-
+/// How many milliseconds lie between two tries to copy a desk.
 const PAUSE_MILLISECONDS: u64 = 10;
 
 /// What is told where a desk's file could not be used so.
@@ -97,54 +96,53 @@ pub(crate) trait Target {
     fn take_log(&mut self, rt: &HostRuntime, from: Option<fs::File>) -> Result<(), CopyFault>;
 }
 
-/// What became of one reading of both files.
-enum Reading {
-    /// They were read of one state.
-    Whole,
-    /// The log was emptied meanwhile.
-    Torn,
-    /// They are not one desk's two files.
-    Unpaired(Unpaired),
+/// A desk's two files on this machine, and what they are copied to.
+#[derive(Drop)]
+struct HostDesk<'a, T: Target> {
+    rt: &'a HostRuntime,
+    kept: &'a Kept,
+    target: &'a mut T,
 }
 
-/// Copies the database file and then its log, and looks whether both were read of one state.
-fn read_once<T: Target>(
-    rt: &HostRuntime,
-    kept: &Kept,
-    target: &mut T,
-) -> Result<Reading, CopyFault> {
-    let before = read_marks(rt, kept)?;
-    if let Some(why) = why_unpaired(&before) {
-        return Ok(Reading::Unpaired(why));
+impl<T: Target> DeskFiles for HostDesk<'_, T> {
+    type Fault = CopyFault;
+
+    // no contract can say what a file gives
+    ghost asks = { λ _ _ _. ⊤ };
+
+    ghost nothing = { λ _. tt };
+
+    ghost joined = { λ _ _ _ _ _ _ _. tt };
+
+    fn marks(&mut self) -> Result<Marks, CopyFault> {
+        read_marks(self.rt, self.kept)
     }
-    let database = fs::open(rt, kept.database.as_str()).map_err(of_desk)?;
-    target.take_database(rt, database)?;
-    target.take_log(rt, opened(rt, kept.log.as_str())?)?;
-    let after = read_marks(rt, kept)?;
-    if is_one_state(&before, &after) {
-        return Ok(Reading::Whole);
+
+    fn take_database(&mut self) -> Result<(), CopyFault> {
+        let database = fs::open(self.rt, self.kept.database.as_str()).map_err(of_desk)?;
+        self.target.take_database(self.rt, database)
     }
-    match why_unpaired(&after) {
-        Some(why) => Ok(Reading::Unpaired(why)),
-        None => Ok(Reading::Torn),
+
+    fn take_log(&mut self) -> Result<(), CopyFault> {
+        let log = opened(self.rt, self.kept.log.as_str())?;
+        self.target.take_log(self.rt, log)
+    }
+
+    fn pause(&mut self) {
+        thread::sleep(self.rt, Duration::from_millis(PAUSE_MILLISECONDS));
     }
 }
 
-/// Copies the database file and then its log, until both were read of one state. What is copied then recovers as the desk's own files would, had the desk
-/// crashed when its log was read. A program that opens the desk holds one file before the other, so that is looked at again, too.
+/// Copies the database file and then its log, until both were read of one state (`tc_copy::copy_files`).
 pub(crate) fn copy_files<T: Target>(
     rt: &HostRuntime,
     kept: &Kept,
     target: &mut T,
 ) -> Result<(), CopyFault> {
-    let mut fault = CopyFault::Restless;
-    for _ in 0..MOST_COPIES {
-        fault = match read_once(rt, kept, target)? {
-            Reading::Whole => return Ok(()),
-            Reading::Torn => CopyFault::Restless,
-            Reading::Unpaired(why) => CopyFault::Desk(Some(Because::of_pair(why))),
-        };
-        thread::sleep(rt, Duration::from_millis(PAUSE_MILLISECONDS));
+    let mut files = HostDesk { rt, kept, target };
+    match tc_copy::copy_files(&mut files)? {
+        Reading::Whole => Ok(()),
+        Reading::Torn => Err(CopyFault::Restless),
+        Reading::Unpaired(why) => Err(CopyFault::Desk(Some(Because::of_pair(why)))),
     }
-    Err(fault)
 }

@@ -18,7 +18,7 @@ mod unserved;
 
 pub use backups::backup;
 pub use because::{Because, Unusable};
-pub use copying::{Beside, CopyFault, MOST_COPIES};
+pub use copying::{Beside, CopyFault};
 pub use files::{of_tables, open_database, open_desk, open_script, text_at};
 pub use looking::{
     why_no_desk, why_no_opening, why_no_script, why_uncopied, why_unread, why_unwritable,

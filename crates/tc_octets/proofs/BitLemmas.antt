@@ -12,7 +12,8 @@ pub xor_of_7 : (a b : ℕ) → a < 2 ^ 7 → b < 2 ^ 7 → bit_xor a b < 2 ^ 7
 xor_of_7 a b h k = xor_lt 7 a b h k
 
 -- a register that has taken the bits above this place takes the next one
-pub bit_folded : (step : ℕ → ℕ → ℕ) (register place octet : ℕ) → fold step register (bits (place + 1) octet) ≡ fold step (step register (octet / 2 ^ place % 2)) (bits place octet)
+pub bit_folded : (step : ℕ → ℕ → ℕ) (register place octet : ℕ)
+    → fold step register (bits (place + 1) octet) ≡ fold step (step register (octet / 2 ^ place % 2)) (bits place octet)
 bit_folded step register place octet = ap (λ n. fold step register (bits n octet)) (add-one place)
 
 pub no_bits_folded : (step : ℕ → ℕ → ℕ) (register octet : ℕ) → fold step register (bits 0 octet) ≡ register

@@ -1,22 +1,26 @@
 -- CLTUs: one codeblock more, and where a receiver is after an octet.
-use Rattle.std.proofs.Common.{◌≡◌, ℕ, zero, suc, ◌+◌, ◌-◌, ◌*◌, ◌/◌, ◌%◌, ◌<◌, ◌≤◌, Bool, true, false, cond, List, [], ◌∷◌, ◌++◌, take, drop, length, get_or, Option, Some, None, refl, sym, ap, ◌∙◌, subst, arith}
-use Rattle.std.specs.Prelude.{◌==◌, nat_lt, ◌&&◌}
+use Rattle.std.proofs.Common.{◌≡◌, ℕ, suc, ◌+◌, ◌-◌, ◌*◌, ◌<◌, ◌≤◌, Bool, true, false, List, [], ◌∷◌, ◌++◌, take, drop, length}
+use Rattle.std.proofs.Common.{None, refl, sym, ap, ◌∙◌, arith}
+use Rattle.std.specs.Prelude.{◌==◌, ◌&&◌}
 use Rattle.std.specs.List.{fold}
 use Rattle.std.proofs.lemmas.Bool.{cond_below, cond_above, cond_both}
 use Rattle.std.proofs.lemmas.List.{append_assoc, append-nil, drop-drop, length-append, length-take}
 use Rattle.tc_octets.specs.Codeblocks.{codeblock_of, error_control_of, sent_of}
-use Rattle.tc_octets.specs.Cltus.{Place, searching, within, Found, come, waits, kept, after_block, codeblock_in, whole_block, place_of, codeblocks_of}
+use Rattle.tc_octets.specs.Cltus.{Place, searching, within, come, waits, kept, after_block, codeblock_in, whole_block, place_of, codeblocks_of}
 use Rattle.tc_octets.specs.declared.codeblocks.Mode.{Mode}
 
 -- one codeblock more is put
-pub block_put : (out octets information : List ℕ) (check blocks i : ℕ) → i < blocks → information ≡ take 7 (drop (7 * i) octets) → check ≡ error_control_of information
-    → (out ++ information ++ check ∷ []) ++ codeblocks_of (blocks - (i + 1)) (drop (7 * (i + 1)) octets) ≡ out ++ codeblocks_of (blocks - i) (drop (7 * i) octets)
+pub block_put : (out octets information : List ℕ) (check blocks i : ℕ) → i < blocks → information ≡ take 7 (drop (7 * i) octets)
+    → check ≡ error_control_of information
+    → (out ++ information ++ check ∷ []) ++ codeblocks_of (blocks - (i + 1)) (drop (7 * (i + 1)) octets) ≡ out
+    ++ codeblocks_of (blocks - i) (drop (7 * i) octets)
 block_put out octets information check blocks i h is right =
     let more : blocks - i ≡ suc (blocks - (i + 1)) = omega arith in
     let next : 7 * (i + 1) ≡ 7 * i + 7 = omega arith in
     sym (
     ap (λ n. out ++ codeblocks_of n (drop (7 * i) octets)) more
-    ∙ ap (λ l. out ++ (codeblock_of (take 7 (drop (7 * i) octets)) ++ codeblocks_of (blocks - (i + 1)) l)) (drop-drop 7 (7 * i) octets ∙ ap (λ n. drop n octets) (sym next))
+    ∙ ap (λ l. out ++ (codeblock_of (take 7 (drop (7 * i) octets)) ++ codeblocks_of (blocks - (i + 1)) l))
+    (drop-drop 7 (7 * i) octets ∙ ap (λ n. drop n octets) (sym next))
     ∙ ap (λ l. out ++ (codeblock_of l ++ codeblocks_of (blocks - (i + 1)) (drop (7 * (i + 1)) octets))) (sym is)
     ∙ ap (λ n. out ++ ((information ++ n ∷ []) ++ codeblocks_of (blocks - (i + 1)) (drop (7 * (i + 1)) octets))) (sym right)
     ∙ sym (append_assoc out (information ++ check ∷ []) (codeblocks_of (blocks - (i + 1)) (drop (7 * (i + 1)) octets)))
@@ -24,7 +28,8 @@ block_put out octets information check blocks i h is right =
     )
 
 -- no codeblock is left
-pub none_left : (out octets : List ℕ) (blocks i : ℕ) (all : List ℕ) → blocks ≤ i → out ++ codeblocks_of (blocks - i) (drop (7 * i) octets) ≡ all → out ≡ all
+pub none_left : (out octets : List ℕ) (blocks i : ℕ) (all : List ℕ) → blocks ≤ i → out ++ codeblocks_of (blocks - i) (drop (7 * i) octets) ≡ all
+    → out ≡ all
 none_left out octets blocks i all h e =
     let left : blocks - i ≡ 0 = omega arith in
     sym (append-nil out) ∙ ap (λ n. out ++ codeblocks_of n (drop (7 * i) octets)) (sym left) ∙ e

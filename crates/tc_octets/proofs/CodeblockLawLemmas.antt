@@ -1,5 +1,6 @@
 -- Two codeblocks differ in four bits at least, and the tail sequence from each codeblock in four.
-use Rattle.std.proofs.Common.{◌≡◌, ℕ, zero, suc, ◌/◌, ◌%◌, ◌^◌, ◌<◌, Bool, true, false, not, List, [], ◌∷◌, length, get_or, set, Some, None, refl, sym, ap, ◌∙◌, inl, inr, arith}
+use Rattle.std.proofs.Common.{◌≡◌, ℕ, zero, suc, ◌/◌, ◌%◌, ◌^◌, ◌<◌, Bool, true, false, not, List, [], ◌∷◌, length, get_or, set, Some, None, refl}
+use Rattle.std.proofs.Common.{sym, ap, ◌∙◌, inl, inr, arith}
 use Rattle.std.specs.Prelude.{◌≢◌, ◌==◌, ◌&&◌, bit_xor}
 use Rattle.std.specs.Int.Bits.{xor_assoc, xor_self, xor_zero_l, xor_zero_r}
 use Rattle.std.proofs.lemmas.Bool.{and_parts, cases_eq, cases_order, cond-true, cond-false, eqb-false, not-true}
@@ -10,7 +11,8 @@ use Rattle.tc_octets.specs.CodeblockLaws.{OneIsMended, TailIsRefused, ThreeAreFo
 use Rattle.tc_octets.specs.CrcLaws.{AllBelow}
 use Rattle.tc_octets.specs.declared.codeblocks.Mode.TheVariants.{Detecting, Correcting}
 use Rattle.tc_octets.proofs.RegisterLemmas.{no_ones}
-use Rattle.tc_octets.proofs.SyndromeLemmas.{changes, codeblock_is, codeblock_length, codeblock_syndrome, not_codeblock, parity_turned, syndrome, syndrome_turned, tail_syndrome, turned_length}
+use Rattle.tc_octets.proofs.SyndromeLemmas.{changes, codeblock_is, codeblock_length, codeblock_syndrome, not_codeblock, parity_turned, syndrome}
+use Rattle.tc_octets.proofs.SyndromeLemmas.{syndrome_turned, tail_syndrome, turned_length}
 
 -- ---- what the bits lay over a syndrome differs
 
@@ -125,7 +127,8 @@ two_of_tail p q h k =
 
 -- ---- decoders
 
-none_mends : (count : ℕ) (block : List ℕ) → ((place : ℕ) → place < count → is_codeblock (turned place block) ≡ false) → with_one_turned count block ≡ None
+none_mends : (count : ℕ) (block : List ℕ) → ((place : ℕ) → place < count → is_codeblock (turned place block) ≡ false)
+    → with_one_turned count block ≡ None
 unfolding with_one_turned
 none_mends zero block each = refl
 none_mends (suc count) block each =
@@ -133,7 +136,8 @@ none_mends (suc count) block each =
     ∙ none_mends count block (λ place h. each place (omega arith))
 
 one_mends : (count place : ℕ) (block : List ℕ) → place < count → is_codeblock (turned place block) ≡ true
-    → ((other : ℕ) → other < count → other ≢ place → is_codeblock (turned other block) ≡ false) → with_one_turned count block ≡ Some (turned place block)
+    → ((other : ℕ) → other < count → other ≢ place → is_codeblock (turned other block) ≡ false)
+    → with_one_turned count block ≡ Some (turned place block)
 unfolding with_one_turned
 one_mends zero place block h e each = absurd (omega arith)
 one_mends (suc count) place block h e each =
@@ -165,7 +169,8 @@ turned_back place block h long =
 pub whole_taken : WholeIsTaken
 unfolding sent_of
 whole_taken mode information long =
-    cond-true (is_codeblock (codeblock_of information)) (Some (codeblock_of information)) (mended_by mode (codeblock_of information)) (codeblock_is information long)
+    cond-true (is_codeblock (codeblock_of information)) (Some (codeblock_of information)) (mended_by mode (codeblock_of information))
+    (codeblock_is information long)
 
 pub three_found : ThreeAreFound
 three_found information [] long all differ least most = absurd (omega arith)

@@ -1,5 +1,6 @@
 -- The CRC is linear. It finds every burst of up to 16 bits, every odd number of wrong bits, and every two within 32,767 bits.
-use Rattle.std.proofs.Common.{◌≡◌, ℕ, zero, suc, ◌+◌, ◌-◌, ◌*◌, ◌/◌, ◌%◌, ◌^◌, ◌<◌, ◌≤◌, Bool, true, false, List, [], ◌∷◌, ◌++◌, length, replicate, refl, sym, ap, ◌∙◌, subst, inl, inr, arith, add-zero, add-suc}
+use Rattle.std.proofs.Common.{◌≡◌, ℕ, zero, suc, ◌+◌, ◌-◌, ◌*◌, ◌/◌, ◌%◌, ◌^◌, ◌<◌, ◌≤◌, Bool, true, false, List, [], ◌∷◌, ◌++◌, length, replicate}
+use Rattle.std.proofs.Common.{refl, sym, ap, ◌∙◌, subst, inl, inr, arith, add-zero, add-suc}
 use Rattle.std.specs.Prelude.{◌≢◌, ◌⊎◌, ◌==◌, if◌then◌else◌, ◌&&◌, bit_xor}
 use Rattle.std.specs.Int.Bits.{xor_assoc, xor_self, xor_zero_l}
 use Rattle.std.proofs.Math.Nat.{mul_assoc, add-mul, pow-suc, suc-mul}
@@ -149,7 +150,8 @@ differ_in_parity n e odd = omega arith
 odd_some : (errors : List ℕ) → AllBelow 2 errors → ones errors % 2 ≡ 1 → crc_from 0 errors ≢ 0
 unfolding crc_step
 odd_some errors all odd e =
-    let kept : count_ones (crc_from 0 errors) % 2 ≡ (count_ones 0 + ones errors) % 2 = parity_kept 15 4129 odd_mask (omega arith) 0 errors (omega arith) all in
+    let kept : count_ones (crc_from 0 errors) % 2 ≡ (count_ones 0 + ones errors) % 2 =
+    parity_kept 15 4129 odd_mask (omega arith) 0 errors (omega arith) all in
     differ_in_parity (ones errors) (ap (λ n. n % 2) (sym (ap count_ones e ∙ no_ones)) ∙ kept ∙ ap (λ n. (n + ones errors) % 2) no_ones) odd
 
 pub odd_found : OddErrorsAreFound
@@ -218,7 +220,8 @@ no_ones_left (bit ∷ bits) e =
 -- the last one, read by a register that is not that of a one at its top
 last_one : (register : ℕ) (rest : List ℕ) → register < 2 ^ 16 → register ≢ 32768 → ones rest ≡ 0 → crc_from (crc_step register 1) rest ≢ 0
 last_one register rest small other none e =
-    let stayed : crc_from (crc_step register 1) (replicate (length rest) 0) ≡ 0 = ap (λ l. crc_from (crc_step register 1) l) (sym (no_ones_left rest none)) ∙ e in
+    let stayed : crc_from (crc_step register 1) (replicate (length rest) 0) ≡ 0 =
+    ap (λ l. crc_from (crc_step register 1) l) (sym (no_ones_left rest none)) ∙ e in
     others_stay (crc_step register 1) (length rest) (step_small register 1)
     (λ zero_now. other (reads_zero register (1 ∷ []) small (omega arith, tt) (omega arith) zero_now))
     stayed
@@ -229,7 +232,8 @@ one_some steps register [] small away few all one = absurd (omega arith)
 one_some zero register (bit ∷ errors) small away few all one = absurd (omega arith)
 one_some (suc steps) register (zero ∷ errors) small away few all one =
     one_some steps (crc_step register 0) errors (step_small register 0) (away_now steps register away).1 (omega arith) all.1 (omega arith)
-one_some (suc steps) register (suc zero ∷ errors) small away few all one = last_one register errors small (away_now steps register away).0 (omega arith)
+one_some (suc steps) register (suc zero ∷ errors) small away few all one =
+    last_one register errors small (away_now steps register away).0 (omega arith)
 one_some (suc steps) register (suc (suc bit) ∷ errors) small away few all one = absurd (let h = all.0 in omega arith)
 
 -- x has the order 32,767: a one that was read comes to the top alone no sooner

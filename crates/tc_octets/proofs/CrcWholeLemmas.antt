@@ -1,5 +1,7 @@
 -- Octets with their CRC behind them have the CRC 0, and with no other check.
-use Rattle.std.proofs.Common.{◌≡◌, ℕ, zero, suc, ◌+◌, ◌-◌, ◌*◌, ◌/◌, ◌%◌, ◌^◌, ◌<◌, ◌≤◌, List, [], ◌∷◌, ◌++◌, length, refl, sym, ap, ◌∙◌, subst, inl, inr, arith, one-add, zero-add, zero-mul, one-mul, pow-suc, add-mul, add_assoc, mul_assoc, mul-one, mul-lt-mul_of_pos_right}
+use Rattle.std.proofs.Common.{◌≡◌, ℕ, zero, suc, ◌+◌, ◌-◌, ◌*◌, ◌/◌, ◌%◌, ◌^◌, ◌<◌, ◌≤◌, List, [], ◌∷◌, ◌++◌, length, refl, sym, ap, ◌∙◌, subst, inl}
+use Rattle.std.proofs.Common.{inr, arith, one-add, zero-add, zero-mul, one-mul, pow-suc, add-mul, add_assoc, mul_assoc, mul-one}
+use Rattle.std.proofs.Common.{mul-lt-mul_of_pos_right}
 use Rattle.std.proofs.lemmas.Nat.{mod-pow-add, pow-add, pow_pos}
 use Rattle.std.proofs.lemmas.List.{append-nil, length-append}
 use Rattle.std.proofs.lemmas.List.Concat.{flat_map-append}
@@ -28,7 +30,8 @@ number-append : (xs ys : List ℕ) → number_of_bits (xs ++ ys) ≡ number_of_b
 number-append [] ys = sym (ap (λ n. n + number_of_bits ys) (zero-mul (2 ^ length ys)) ∙ zero-add (number_of_bits ys))
 number-append (x ∷ xs) ys =
     let power : 2 ^ length (xs ++ ys) ≡ 2 ^ length xs * 2 ^ length ys = ap (λ n. 2 ^ n) (length-append xs ys) ∙ pow-add 2 (length xs) (length ys) in
-    let high : x * 2 ^ length (xs ++ ys) ≡ x * 2 ^ length xs * 2 ^ length ys = ap (λ n. x * n) power ∙ sym (mul_assoc x (2 ^ length xs) (2 ^ length ys)) in
+    let high : x * 2 ^ length (xs ++ ys) ≡ x * 2 ^ length xs * 2 ^ length ys =
+    ap (λ n. x * n) power ∙ sym (mul_assoc x (2 ^ length xs) (2 ^ length ys)) in
     let both = add-mul (x * 2 ^ length xs) (number_of_bits xs) (2 ^ length ys) in
     ap (λ n. n + number_of_bits (xs ++ ys)) high
     ∙ ap (λ n. x * 2 ^ length xs * 2 ^ length ys + n) (number-append xs ys)
@@ -65,7 +68,8 @@ number_small : (bits : List ℕ) → AllBelow 2 bits → number_of_bits bits < 2
 number_small [] all = omega arith
 number_small (bit ∷ bits) all = one_bit_small bit (length bits) (number_of_bits bits) all.0 (number_small bits all.1)
 
-top_and_rest : (register bit low : ℕ) → bit < 2 → low < 2 ^ 15 → register ≡ bit * 2 ^ 15 + low → (register / 2 ^ 15 ≡ bit) × (register * 2 % 2 ^ 16 ≡ low * 2)
+top_and_rest : (register bit low : ℕ) → bit < 2 → low < 2 ^ 15 → register ≡ bit * 2 ^ 15 + low
+    → (register / 2 ^ 15 ≡ bit) × (register * 2 % 2 ^ 16 ≡ low * 2)
 top_and_rest register bit low h k e = (omega arith, omega arith)
 
 shifted_out : (register bit low : ℕ) → bit < 2 → low < 2 ^ 15 → register ≡ bit * 2 ^ 15 + low → crc_step register bit ≡ low * 2
@@ -111,7 +115,8 @@ pub whole_zero : CrcOfTheWhole
 whole_zero octets check small =
     let behind = bits_of (pair check) in
     let long : length behind ≤ 16 = omega (arith, all_length (pair check)) in (
-      λ e. sym (reads_zero (crc_of octets) behind (from_small 65535 (bits_of octets) (omega arith)) (all_small (pair check)) long (sym (whole_from octets check) ∙ e)
+      λ e. sym (reads_zero (crc_of octets) behind (from_small 65535 (bits_of octets) (omega arith)) (all_small (pair check)) long
+          (sym (whole_from octets check) ∙ e)
           ∙ scaled check small),
       λ e. whole_from octets check ∙ reads_itself (crc_of octets) behind (all_small (pair check)) long (sym e ∙ sym (scaled check small)),
     )

@@ -1,6 +1,7 @@
 -- Fifteen octets of idle bring a receiver to where it looks for a start sequence, wherever it was.
-use Rattle.std.proofs.Common.{◌≡◌, ℕ, zero, suc, ◌+◌, ◌-◌, ◌<◌, ◌≤◌, Bool, true, false, List, [], ◌∷◌, ◌++◌, take, length, replicate, Option, Some, None, refl, sym, ap, ◌∙◌, subst, inl, inr, arith}
-use Rattle.std.specs.Prelude.{◌⊎◌, ◌==◌, ◌&&◌, nat_lt, cond}
+use Rattle.std.proofs.Common.{◌≡◌, ℕ, zero, suc, ◌+◌, ◌-◌, ◌<◌, ◌≤◌, Bool, true, false, List, [], ◌∷◌, ◌++◌, take, length, Option, Some}
+use Rattle.std.proofs.Common.{None, refl, sym, ap, ◌∙◌, subst, inl, inr, arith}
+use Rattle.std.specs.Prelude.{◌⊎◌, ◌==◌, ◌&&◌, nat_lt}
 use Rattle.std.specs.List.{fold}
 use Rattle.std.proofs.lemmas.Bool.{cond_both, cases_lt}
 use Rattle.std.proofs.lemmas.List.{append_assoc, append-nil, length-append, length-replicate, replicate-append-replicate}
@@ -8,10 +9,10 @@ use Rattle.std.proofs.lemmas.List.Sums.{fold-append}
 use Rattle.tc_octets.specs.Codeblocks.{sent_of, is_codeblock, bch_step, with_one_turned}
 use Rattle.tc_octets.specs.Bits.{octet_bits}
 use Rattle.tc_octets.specs.Cltus.{Place, searching, within, Found, come, received, whole_block, after_block, codeblock_in, waits, cltu_of}
-use Rattle.tc_octets.specs.CltuRuns.{Run, added, came, run, idle, FoundAfterNoise, IdleBringsSearch}
+use Rattle.tc_octets.specs.CltuRuns.{Run, came, run, idle, FoundAfterNoise, IdleBringsSearch}
 use Rattle.tc_octets.specs.declared.codeblocks.Mode.{Mode}
 use Rattle.tc_octets.specs.declared.codeblocks.Mode.TheVariants.{Detecting, Correcting}
-use Rattle.tc_octets.proofs.CltuLemmas.{too_few, block_there, waits_more, looked_few}
+use Rattle.tc_octets.proofs.CltuLemmas.{too_few, block_there, looked_few}
 use Rattle.tc_octets.proofs.CltuRunLemmas.{whole_found}
 
 -- where a receiver is after an octet, whatever ended
@@ -38,7 +39,8 @@ next_waits mode place octet h = ap (λ (f : Found). f.place) (too_few mode (come
 
 -- octets that make a block whole
 block_made : (mode : Mode) (information waiting octets : List ℕ) → length waiting < 8 → length waiting + length octets ≡ 8
-    → places mode (within information waiting) octets ≡ (after_block information (waiting ++ octets) (codeblock_in mode information (waiting ++ octets))).place
+    → places mode (within information waiting) octets
+    ≡ (after_block information (waiting ++ octets) (codeblock_in mode information (waiting ++ octets))).place
 unfolding received
 block_made mode information waiting [] h e = absurd (omega arith)
 block_made mode information waiting (octet ∷ []) h e =
@@ -91,12 +93,14 @@ idle_looked false (suc count) = idle_looked false count
 
 -- What octets and idle after them are looked through for: nothing begins there, or something does after fewer of the octets.
 abbrev Looks : List ℕ → ℕ → Place → Type 0
-Looks octets count place = (place ≡ searching false) ⊎ ((rest : List ℕ) × (length rest < length octets) × (place ≡ within [] (rest ++ idle (suc count))))
+Looks octets count place = (place ≡ searching false) ⊎ ((rest : List ℕ) × (length rest < length octets)
+    × (place ≡ within [] (rest ++ idle (suc count))))
 
 looks : (begun : Bool) (octets : List ℕ) (count : ℕ) → Looks octets count (fold come (searching begun) (octets ++ idle (suc count)))
 looks begun [] count = inl (idle_looked begun count)
 looks begun (octet ∷ octets) count =
-    cond_both (begun && (octet == 0x90)) (within [] []) (searching (octet == 0xeb)) (λ p. Looks (octet ∷ octets) count (fold come p (octets ++ idle (suc count))))
+    cond_both (begun && (octet == 0x90)) (within [] []) (searching (octet == 0xeb))
+    (λ p. Looks (octet ∷ octets) count (fold come p (octets ++ idle (suc count))))
     (λ e. inr (octets, omega arith, within_all [] [] (octets ++ idle (suc count))))
     (λ e. elim (looks (octet == 0xeb) octets count) [
       | inl nothing ↦ inl nothing
@@ -104,7 +108,8 @@ looks begun (octet ∷ octets) count =
     ])
 
 -- a block with idle at its end: the rest of the idle is enough, whether it reads or not
-after_some : (mode : Mode) (information codeblock : List ℕ) (n : ℕ) → 1 ≤ n → places mode (within (information ++ take 7 codeblock) []) (idle (7 + n)) ≡ searching false
+after_some : (mode : Mode) (information codeblock : List ℕ) (n : ℕ) → 1 ≤ n
+    → places mode (within (information ++ take 7 codeblock) []) (idle (7 + n)) ≡ searching false
 after_some mode information codeblock n h =
     let size : 7 + n ≡ 8 + (n - 1) = omega arith in
     ap (λ m. places mode (within (information ++ take 7 codeblock) []) (idle m)) size ∙ between_idle mode (information ++ take 7 codeblock) (n - 1)
@@ -114,9 +119,11 @@ abbrev Brings : Mode → ℕ → Type 0
 Brings mode fuel = (information octets : List ℕ) (m : ℕ) → length octets ≤ fuel → length octets + m < 8
     → places mode (within information (octets ++ idle m)) (idle (15 - m)) ≡ searching false
 
-after_none : (mode : Mode) (fuel : ℕ) (octets : List ℕ) (place : Place) → Brings mode fuel → length octets ≤ suc fuel → 1 ≤ length octets → length octets < 8
+after_none : (mode : Mode) (fuel : ℕ) (octets : List ℕ) (place : Place) → Brings mode fuel → length octets ≤ suc fuel → 1 ≤ length octets
+    → length octets < 8
     → Looks octets (7 - length octets) place → places mode place (idle (7 + length octets)) ≡ searching false
-after_none mode fuel octets place brings h some few (inl at) = ap (λ p. places mode p (idle (7 + length octets))) at ∙ searched_idle mode (7 + length octets)
+after_none mode fuel octets place brings h some few (inl at) =
+    ap (λ p. places mode p (idle (7 + length octets))) at ∙ searched_idle mode (7 + length octets)
 after_none mode fuel octets place brings h some few (inr later) =
     let left : 7 + length octets ≡ 15 - suc (7 - length octets) = omega arith in
     let shorter = later.1 in
@@ -124,7 +131,8 @@ after_none mode fuel octets place brings h some few (inr later) =
     ∙ ap (λ n. places mode (within [] (later.0 ++ idle (suc (7 - length octets)))) (idle n)) left
     ∙ brings [] later.0 (suc (7 - length octets)) (omega arith) (omega arith)
 
-whatever : (mode : Mode) (fuel : ℕ) (information octets block : List ℕ) (read : Option (List ℕ)) → Brings mode fuel → length octets ≤ suc fuel → 1 ≤ length octets → length octets < 8
+whatever : (mode : Mode) (fuel : ℕ) (information octets block : List ℕ) (read : Option (List ℕ)) → Brings mode fuel → length octets ≤ suc fuel
+    → 1 ≤ length octets → length octets < 8
     → block ≡ octets ++ idle (suc (7 - length octets))
     → places mode (after_block information block read).place (idle (7 + length octets)) ≡ searching false
 whatever mode fuel information octets block (Some codeblock) brings h some few is = after_some mode information codeblock (length octets) some
@@ -152,14 +160,17 @@ within_idle mode (suc fuel) information (x ∷ octets) m h k =
     let block : ((x ∷ octets) ++ idle m) ++ idle (8 - length (x ∷ octets) - m) ≡ (x ∷ octets) ++ idle (suc (7 - length (x ∷ octets))) =
     append_assoc (x ∷ octets) (idle m) (idle (8 - length (x ∷ octets) - m))
     ∙ ap (λ l. (x ∷ octets) ++ l) (sym (idle_split m (8 - length (x ∷ octets) - m)) ∙ ap idle ends) in
-    let sizes : length ((x ∷ octets) ++ idle m) ≡ length (x ∷ octets) + m = length-append (x ∷ octets) (idle m) ∙ ap (λ s. length (x ∷ octets) + s) (idle_length m) in
+    let sizes : length ((x ∷ octets) ++ idle m) ≡ length (x ∷ octets) + m =
+    length-append (x ∷ octets) (idle m) ∙ ap (λ s. length (x ∷ octets) + s) (idle_length m) in
     ap (λ s. places mode (within information ((x ∷ octets) ++ idle m)) (idle s)) parts
     ∙ ap (places mode (within information ((x ∷ octets) ++ idle m))) (idle_split (8 - length (x ∷ octets) - m) (7 + length (x ∷ octets)))
     ∙ places-append mode (within information ((x ∷ octets) ++ idle m)) (idle (8 - length (x ∷ octets) - m)) (idle (7 + length (x ∷ octets)))
     ∙ ap (λ p. places mode p (idle (7 + length (x ∷ octets))))
-    (block_made mode information ((x ∷ octets) ++ idle m) (idle (8 - length (x ∷ octets) - m)) (omega arith) (omega (arith, idle_length (8 - length (x ∷ octets) - m)))
+    (block_made mode information ((x ∷ octets) ++ idle m) (idle (8 - length (x ∷ octets) - m)) (omega arith)
+    (omega (arith, idle_length (8 - length (x ∷ octets) - m)))
     ∙ ap (λ l. (after_block information l (codeblock_in mode information l)).place) block)
-    ∙ whatever mode fuel information (x ∷ octets) ((x ∷ octets) ++ idle (suc (7 - length (x ∷ octets)))) (codeblock_in mode information ((x ∷ octets) ++ idle (suc (7 - length (x ∷ octets)))))
+    ∙ whatever mode fuel information (x ∷ octets) ((x ∷ octets) ++ idle (suc (7 - length (x ∷ octets))))
+    (codeblock_in mode information ((x ∷ octets) ++ idle (suc (7 - length (x ∷ octets)))))
     (within_idle mode fuel) h (omega arith) (omega arith) refl
 
 -- wherever a receiver is
@@ -179,20 +190,25 @@ idle_brings mode start h = run_place mode start (idle 15) ∙ place_idle mode st
 split_few : (n : ℕ) → (n < 7) ⊎ (7 ≤ n)
 split_few n = cases_lt n 7
 
-after_few : (mode : Mode) (information block : List ℕ) (read : Option (List ℕ)) → length block ≡ 8 → waits (after_block information block read).place < 8
+after_few : (mode : Mode) (information block : List ℕ) (read : Option (List ℕ)) → length block ≡ 8
+    → waits (after_block information block read).place < 8
 after_few mode information block (Some codeblock) e = omega arith
 after_few mode information block None e = looked_few block (omega arith)
 
 next_few : (mode : Mode) (place : Place) (octet : ℕ) → waits place < 8 → waits (next mode place octet) < 8
 unfolding received
 next_few mode (searching begun) octet h =
-    cond_both (begun && (octet == 0x90)) (within [] []) (searching (octet == 0xeb)) (λ p. waits (whole_block mode p).place < 8) (λ e. omega arith) (λ e. omega arith)
+    cond_both (begun && (octet == 0x90)) (within [] []) (searching (octet == 0xeb)) (λ p. waits (whole_block mode p).place < 8) (λ e. omega arith)
+    (λ e. omega arith)
 next_few mode (within information waiting) octet h =
     elim (split_few (length waiting)) [
-      | inl few ↦ subst (λ (p : Place). waits p < 8) (sym (next_waits mode (within information waiting) octet (omega (arith, length-append waiting (octet ∷ []), few)))) (omega (arith, length-append waiting (octet ∷ []), few))
+      | inl few ↦ subst (λ (p : Place). waits p < 8) (sym
+          (next_waits mode (within information waiting) octet (omega (arith, length-append waiting (octet ∷ []), few))))
+          (omega (arith, length-append waiting (octet ∷ []), few))
       | inr seven ↦ subst (λ (f : Found). waits f.place < 8)
           (sym (block_there mode information (waiting ++ octet ∷ []) (omega (arith, length-append waiting (octet ∷ []), seven))))
-          (after_few mode information (waiting ++ octet ∷ []) (codeblock_in mode information (waiting ++ octet ∷ [])) (omega (arith, length-append waiting (octet ∷ []), seven)))
+          (after_few mode information (waiting ++ octet ∷ []) (codeblock_in mode information (waiting ++ octet ∷ []))
+          (omega (arith, length-append waiting (octet ∷ []), seven)))
     ]
 
 places_few : (mode : Mode) (place : Place) (octets : List ℕ) → waits place < 8 → waits (places mode place octets) < 8
@@ -211,5 +227,6 @@ found_after_noise mode noise frame randomizer h =
     ∙ places-append mode (searching false) noise (idle 15)
     ∙ place_idle mode (places mode (searching false) noise) (places_few mode (searching false) noise (omega arith)) in
     fold-append (came mode) (record { place = searching false; ended = [] }) (noise ++ idle 15) (cltu_of randomizer frame)
-    ∙ ap (λ r. run mode r (cltu_of randomizer frame)) (same_run (run mode (record { place = searching false; ended = [] }) (noise ++ idle 15)) (searching false) there)
+    ∙ ap (λ r. run mode r (cltu_of randomizer frame))
+    (same_run (run mode (record { place = searching false; ended = [] }) (noise ++ idle 15)) (searching false) there)
     ∙ whole_found mode false randomizer (run mode (record { place = searching false; ended = [] }) (noise ++ idle 15)).ended frame h

@@ -6,6 +6,7 @@ pub mod ProfileValueLemmas
 pub mod ProfileLineLemmas
 pub mod ProfilePrintLemmas
 pub mod ProfileTextLaws
+pub mod StandardLemmas
 pub mod RegisterLemmas
 pub mod RandomizerLemmas
 pub mod TcFrameLemmas
@@ -26,5 +27,6 @@ pub mod CltuRunLemmas
 pub mod IdleLemmas
 pub mod FrameBackLemmas
 pub mod CltuFrameLemmas
+pub mod BringLemmas
 mod CltuCases
 mod ProfileCases

@@ -1,5 +1,6 @@
 -- The lines of a text, and texts without the spaces around them.
-use Rattle.std.proofs.Common.{◌≡◌, ◌≢◌, ℕ, ◌+◌, ◌-◌, ◌<◌, ◌≤◌, zero, suc, Bool, true, false, not, ◌||◌, get_or, eqb, ltb, cond, Some, None, List, [], ◌∷◌, ◌++◌, length, take, drop, reverse, refl, ap, ◌∙◌, ⊎_elim, arith, rules}
+use Rattle.std.proofs.Common.{◌≡◌, ◌≢◌, ℕ, ◌+◌, ◌-◌, ◌<◌, ◌≤◌, zero, suc, Bool, true, false, not, ◌||◌, get_or, eqb, ltb, cond, Some, None, List, []}
+use Rattle.std.proofs.Common.{◌∷◌, ◌++◌, length, take, drop, reverse, refl, ap, ◌∙◌, ⊎_elim, arith, rules}
 use Rattle.std.specs.Prelude.{if◌then◌else◌}
 use Rattle.std.specs.List.{position, position_or_len, before_first, after_first, list_any, slice_split, onto_first}
 use Rattle.std.specs.Str.Lines.{lines, lines_of_parts, strip_carriage_return}
@@ -19,7 +20,8 @@ is_end octet = eqb octet 10
 pub parts_nonempty : (text : List ℕ) → slice_split is_end text ≡ [] → ⊥
 parts_nonempty text e = omega (arith, length-slice_split is_end text, ap length e)
 
-place_of : (p : ℕ → Bool) (text : List ℕ) (place : ℕ) → position p text ≡ Some place → (position_or_len p text < length text) × (place ≡ position_or_len p text)
+place_of : (p : ℕ → Bool) (text : List ℕ) (place : ℕ) → position p text ≡ Some place
+    → (position_or_len p text < length text) × (place ≡ position_or_len p text)
 place_of p text place e =
     ⊎_elim (λ b. (ltb-true _ _ b, search rules)) (λ b. search rules) (cases_Bool (ltb (position_or_len p text) (length text)))
 
@@ -28,7 +30,8 @@ no_place p text e =
     ⊎_elim (λ b. search rules) (λ b. ltb-false _ _ b) (cases_Bool (ltb (position_or_len p text) (length text)))
 
 -- a part that another part follows was ended by an LF
-pub more_parts : (part : List ℕ) (parts : List (List ℕ)) → (parts ≡ [] → ⊥) → lines_of_parts (part ∷ parts) ≡ strip_carriage_return part ∷ lines_of_parts parts
+pub more_parts : (part : List ℕ) (parts : List (List ℕ)) → (parts ≡ [] → ⊥)
+    → lines_of_parts (part ∷ parts) ≡ strip_carriage_return part ∷ lines_of_parts parts
 more_parts part [] h = absurd (h refl)
 more_parts part (next ∷ parts) h = refl
 
@@ -41,7 +44,8 @@ pub ended_line : (text : List ℕ) (place : ℕ) → position is_end text ≡ So
     → lines text ≡ strip_carriage_return (take place text) ∷ lines (take (length text - (place + 1)) (drop (place + 1) text))
 ended_line text place e =
     let found = place_of is_end text place e in
-    let rest : take (length text - (place + 1)) (drop (place + 1) text) ≡ drop (place + 1) text = rw (← length-drop (place + 1) text) (take-length (drop (place + 1) text)) in
+    let rest : take (length text - (place + 1)) (drop (place + 1) text) ≡ drop (place + 1) text =
+    rw (← length-drop (place + 1) text) (take-length (drop (place + 1) text)) in
     let parts : slice_split is_end text ≡ take place text ∷ slice_split is_end (take (length text - (place + 1)) (drop (place + 1) text)) =
     rw (rest, found.1) (slice_split_first is_end text 0 found.0) in
     ap lines_of_parts parts ∙ more_parts (take place text) _ (parts_nonempty (take (length text - (place + 1)) (drop (place + 1) text)))
@@ -51,11 +55,13 @@ take_nothing zero xs e = refl
 take_nothing (suc n) xs e = rw e refl
 
 -- a text without an LF is its only line
-pub last_line : (text : List ℕ) → 0 < length text → position is_end text ≡ None → lines text ≡ text ∷ lines (take (length text - length text) (drop (length text) text))
+pub last_line : (text : List ℕ) → 0 < length text → position is_end text ≡ None
+    → lines text ≡ text ∷ lines (take (length text - length text) (drop (length text) text))
 last_line text some e =
     let parts : slice_split is_end text ≡ text ∷ [] =
     slice_split_none is_end text (λ k d h. fails_before_first is_end text k d (omega (arith, no_place is_end text e))) in
-    let gone : take (length text - length text) (drop (length text) text) ≡ [] = take_nothing (length text - length text) (drop (length text) text) (drop_all (length text) text (omega arith)) in
+    let gone : take (length text - length text) (drop (length text) text) ≡ [] =
+    take_nothing (length text - length text) (drop (length text) text) (drop_all (length text) text (omega arith)) in
     rw gone (ap lines_of_parts parts ∙ one_part text some)
 
 -- ---- a text has no more lines than octets
@@ -77,7 +83,8 @@ one_more false octet n (part ∷ next ∷ parts) h k = k'
 pub few_lines : (text : List ℕ) → length (lines text) ≤ length text
 few_lines [] = omega arith
 few_lines (octet ∷ octets) =
-    let more = one_more (is_end octet) octet (length octets) (slice_split is_end octets) (parts_nonempty octets) (few_lines octets) in omega (arith, more)
+    let more = one_more (is_end octet) octet (length octets) (slice_split is_end octets) (parts_nonempty octets) (few_lines octets) in omega
+    (arith, more)
 
 -- ---- spaces
 
@@ -123,7 +130,8 @@ comment_in (first ∷ rest) some h = rw (eq-eqb first 35 h) refl
 
 -- what words without a comment say
 no_comment : (words : List ℕ) → 0 < length words → get_or words 0 0 ≢ 35
-    → statement_in words ≡ (if list_any is_equals words then setting (trimmed (before_first is_equals words)) (trimmed (after_first is_equals words)) else bad)
+    → statement_in words ≡ (if list_any is_equals words then setting (trimmed (before_first is_equals words)) (trimmed (after_first is_equals words))
+    else bad)
 no_comment [] some h = absurd (omega arith)
 no_comment (first ∷ rest) some h = rw (ne_eqb first 35 h) refl
 
@@ -131,7 +139,8 @@ pub setting_in : (words : List ℕ) (place : ℕ) → 0 < length words → get_o
     → statement_in words ≡ setting (trimmed (take place words)) (trimmed (take (length words - (place + 1)) (drop (place + 1) words)))
 setting_in words place some h e =
     let found = place_of is_equals words place e in
-    let rest : take (length words - (place + 1)) (drop (place + 1) words) ≡ drop (place + 1) words = rw (← length-drop (place + 1) words) (take-length (drop (place + 1) words)) in
+    let rest : take (length words - (place + 1)) (drop (place + 1) words) ≡ drop (place + 1) words =
+    rw (← length-drop (place + 1) words) (take-length (drop (place + 1) words)) in
     no_comment words some h ∙ rw (rest, found.1, any_found is_equals words found.0) refl
 
 pub bad_in : (words : List ℕ) → 0 < length words → get_or words 0 0 ≢ 35 → position is_equals words ≡ None → statement_in words ≡ bad

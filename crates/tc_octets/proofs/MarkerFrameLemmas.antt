@@ -25,7 +25,8 @@ unfolding is_tm_frame
 frame_is profile parts is =
     let octets = tm_frame_of profile parts in
     let passes = passes_there profile parts is in
-    and_from (length octets == profile.tm.length) (check_holds profile.tm.fecf octets && ((tm_version_in octets == 0) && (tm_scid_in octets == profile.scid)))
+    and_from (length octets == profile.tm.length) (check_holds profile.tm.fecf octets &&
+    ((tm_version_in octets == 0) && (tm_scid_in octets == profile.scid)))
     (eq-eqb (length octets) profile.tm.length passes.long)
     (and_from (check_holds profile.tm.fecf octets) ((tm_version_in octets == 0) && (tm_scid_in octets == profile.scid))
     (check_right profile.tm.fecf octets passes.checked)
@@ -38,21 +39,26 @@ check_fails false octets wrong = absurd (wrong (λ e. absurd (true≢false (sym 
 check_fails true octets wrong = ne_eqb (pair_at octets (length octets - 2)) (crc_of (take (length octets - 2) octets)) (λ e. wrong (λ good. e))
 
 -- what a reader says of octets
-pub read_is : (profile : Profile) (octets : List ℕ) (read : Result TmFrame TmFault) → TmReads profile octets read → is_ok read ≡ is_tm_frame profile octets
+pub read_is : (profile : Profile) (octets : List ℕ) (read : Result TmFrame TmFault) → TmReads profile octets read
+    → is_ok read ≡ is_tm_frame profile octets
 unfolding is_tm_frame
 read_is profile octets (Ok frame) says = sym (ap (is_tm_frame profile) says.1 ∙ frame_is profile (tm_parts frame) says.0)
 read_is profile octets (Err faults.Length) says =
-    sym (and_left (length octets == profile.tm.length) (check_holds profile.tm.fecf octets && ((tm_version_in octets == 0) && (tm_scid_in octets == profile.scid)))
+    sym (and_left (length octets == profile.tm.length)
+    (check_holds profile.tm.fecf octets && ((tm_version_in octets == 0) && (tm_scid_in octets == profile.scid)))
     (ne_eqb (length octets) profile.tm.length says))
 read_is profile octets (Err faults.Check) says =
-    sym (and_right (length octets == profile.tm.length) (check_holds profile.tm.fecf octets && ((tm_version_in octets == 0) && (tm_scid_in octets == profile.scid)))
+    sym (and_right (length octets == profile.tm.length)
+    (check_holds profile.tm.fecf octets && ((tm_version_in octets == 0) && (tm_scid_in octets == profile.scid)))
     (and_left (check_holds profile.tm.fecf octets) ((tm_version_in octets == 0) && (tm_scid_in octets == profile.scid))
     (check_fails profile.tm.fecf octets says.1)))
 read_is profile octets (Err faults.Version) says =
-    sym (and_right (length octets == profile.tm.length) (check_holds profile.tm.fecf octets && ((tm_version_in octets == 0) && (tm_scid_in octets == profile.scid)))
+    sym (and_right (length octets == profile.tm.length)
+    (check_holds profile.tm.fecf octets && ((tm_version_in octets == 0) && (tm_scid_in octets == profile.scid)))
     (and_right (check_holds profile.tm.fecf octets) ((tm_version_in octets == 0) && (tm_scid_in octets == profile.scid))
     (and_left (tm_version_in octets == 0) (tm_scid_in octets == profile.scid) (ne_eqb (tm_version_in octets) 0 says.2))))
 read_is profile octets (Err faults.Spacecraft) says =
-    sym (and_right (length octets == profile.tm.length) (check_holds profile.tm.fecf octets && ((tm_version_in octets == 0) && (tm_scid_in octets == profile.scid)))
+    sym (and_right (length octets == profile.tm.length)
+    (check_holds profile.tm.fecf octets && ((tm_version_in octets == 0) && (tm_scid_in octets == profile.scid)))
     (and_right (check_holds profile.tm.fecf octets) ((tm_version_in octets == 0) && (tm_scid_in octets == profile.scid))
     (and_right (tm_version_in octets == 0) (tm_scid_in octets == profile.scid) (ne_eqb (tm_scid_in octets) profile.scid says.3))))

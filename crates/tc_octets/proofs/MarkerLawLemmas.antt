@@ -1,17 +1,21 @@
 -- Streams of marked frames: pieces, whole streams, and what waits.
-use Rattle.std.proofs.Common.{◌≡◌, ℕ, zero, suc, ◌+◌, ◌<◌, ◌≤◌, true, List, [], ◌∷◌, ◌++◌, take, drop, length, refl, sym, ap, ◌∙◌, subst, inl, inr, arith}
+use Rattle.std.proofs.Common.{◌≡◌, ℕ, zero, suc, ◌+◌, ◌<◌, ◌≤◌, true, List, [], ◌∷◌, ◌++◌, take, drop, length, refl, sym, ap, ◌∙◌, subst, inl, inr}
+use Rattle.std.proofs.Common.{arith}
 use Rattle.std.specs.List.{fold}
 use Rattle.std.proofs.lemmas.Bool.{cases_Bool, cases_lt}
 use Rattle.std.proofs.lemmas.List.{append-nil, append_assoc, drop-append-le, length-append, length-drop, take-append-le, take_at}
-use Rattle.tc_octets.specs.Markers.{FewWait, Heard, MarkedFramesAreHeard, MarkedPiecesDoNotMatter, OctetsAreHeard, behind, first_heard, heard, is_tm_frame, joined, marked, marker, may_begin}
+use Rattle.tc_octets.specs.Markers.{FewWait, Heard, MarkedFramesAreHeard, MarkedPiecesDoNotMatter, OctetsAreHeard, behind, first_heard, heard}
+use Rattle.tc_octets.specs.Markers.{is_tm_frame, joined, marked, marker, may_begin}
 use Rattle.tc_octets.specs.TmFrames.{IsTmFrame, TmParts, tm_frame_of}
 use Rattle.tc_octets.specs.declared.profiles.Profile.{Profile}
-use Rattle.tc_octets.proofs.MarkerLemmas.{begins_more, begins_not, heard_at, marker_begins, nothing_heard, place_fault, place_found, place_passed, place_waits}
+use Rattle.tc_octets.proofs.MarkerLemmas.{begins_more, begins_not, heard_at, marker_begins, nothing_heard, place_fault, place_found, place_passed}
+use Rattle.tc_octets.proofs.MarkerLemmas.{place_waits}
 use Rattle.tc_octets.proofs.MarkerFrameLemmas.{frame_is, frame_length}
 
 -- ---- pieces
 
-behind_more : (profile : Profile) (octets more : List ℕ) → profile.tm.length + 4 ≤ length octets → behind profile (octets ++ more) ≡ behind profile octets
+behind_more : (profile : Profile) (octets more : List ℕ) → profile.tm.length + 4 ≤ length octets
+    → behind profile (octets ++ more) ≡ behind profile octets
 behind_more profile octets more h =
     ap (take profile.tm.length) (drop-append-le 4 octets more (omega arith))
     ∙ take-append-le profile.tm.length (drop 4 octets) more (omega (arith, length-drop 4 octets))
@@ -83,10 +87,12 @@ few_from profile zero (octet ∷ rest) =
         | inr long ↦ elim (cases_Bool (is_tm_frame profile (behind profile some))) [
           | inl frame ↦ subst (λ (r : Heard). length r.waits < profile.tm.length + 4) (sym (place_found profile some next after good long frame))
               (few_from profile (profile.tm.length + 3) rest)
-          | inr fault ↦ subst (λ (r : Heard). length r.waits < profile.tm.length + 4) (sym (place_fault profile some next after good long fault)) (few_from profile 0 rest)
+          | inr fault ↦ subst (λ (r : Heard). length r.waits < profile.tm.length + 4) (sym (place_fault profile some next after good long fault))
+              (few_from profile 0 rest)
         ]
       ]
-      | inr not_here ↦ subst (λ (r : Heard). length r.waits < profile.tm.length + 4) (sym (place_passed profile some next after not_here)) (few_from profile 0 rest)
+      | inr not_here ↦ subst (λ (r : Heard). length r.waits < profile.tm.length + 4) (sym (place_passed profile some next after not_here))
+          (few_from profile 0 rest)
     ]
 
 pub few_wait_at_the_end : FewWait
@@ -94,7 +100,8 @@ few_wait_at_the_end profile stream = few_from profile 0 stream
 
 -- ---- marked frames
 
-passed_over : (profile : Profile) (passed : ℕ) (first rest : List ℕ) → length first ≡ passed → heard profile passed (first ++ rest) ≡ heard profile 0 rest
+passed_over : (profile : Profile) (passed : ℕ) (first rest : List ℕ) → length first ≡ passed
+    → heard profile passed (first ++ rest) ≡ heard profile 0 rest
 unfolding heard
 passed_over profile passed [] rest e = ap (λ n. heard profile n rest) (sym e)
 passed_over profile zero (octet ∷ first) rest e = absurd (omega arith)

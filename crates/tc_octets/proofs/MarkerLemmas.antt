@@ -1,11 +1,14 @@
 -- Markers are searched in a stream: one octet more, and one place more.
-use Rattle.std.proofs.Common.{◌≡◌, ℕ, zero, suc, ◌+◌, ◌-◌, ◌<◌, ◌≤◌, Bool, true, false, List, [], ◌∷◌, ◌++◌, take, drop, length, get_or, refl, sym, ap, ◌∙◌, inl, inr, arith, zero-add}
+use Rattle.std.proofs.Common.{◌≡◌, ℕ, zero, suc, ◌+◌, ◌-◌, ◌<◌, ◌≤◌, Bool, true, false, List, [], ◌∷◌, ◌++◌, take, drop, length, get_or, refl, sym}
+use Rattle.std.proofs.Common.{ap, ◌∙◌, inl, inr, arith, zero-add}
 use Rattle.std.specs.Prelude.{◌==◌, ◌&&◌, ◌||◌, nat_lt, if◌then◌else◌}
 use Rattle.std.specs.List.{copy_within}
-use Rattle.std.proofs.lemmas.Bool.{and_from, and_parts, cases_Bool, cases_lt, cond-true, cond-false, false_from_ne_true, le-leb, le-ltb, lt-leb, lt-ltb, true≢false}
+use Rattle.std.proofs.lemmas.Bool.{and_from, and_parts, cases_Bool, cases_lt, cond-true, cond-false, false_from_ne_true, le-leb, le-ltb, lt-leb}
+use Rattle.std.proofs.lemmas.Bool.{lt-ltb, true≢false}
 use Rattle.std.proofs.lemmas.List.{drop-take, drop_all, drop_more, get_or_append_left, length-append, length-drop, take_all, take_rest}
 use Rattle.std.proofs.lemmas.List.Edits.{take-paste}
-use Rattle.tc_octets.specs.Markers.{Heard, IsWaiting, behind, first_heard, fits, from_marker, from_place, heard, heard_in, is_tm_frame, marker, may_begin, waiting}
+use Rattle.tc_octets.specs.Markers.{Heard, IsWaiting, behind, first_heard, fits, from_marker, from_place, heard, heard_in, is_tm_frame, marker}
+use Rattle.tc_octets.specs.Markers.{may_begin, waiting}
 use Rattle.tc_octets.specs.declared.profiles.Profile.{Profile}
 
 -- ---- where a marker may begin
@@ -104,9 +107,9 @@ begins_later octets start at same h not_here =
     let later : may_begin (get_or octets at 0 ∷ drop (at + 1) octets) ≡ false = ap may_begin (sym (take_rest octets at ∙ front)) ∙ not_here in
     same ∙ ap from_marker front ∙ from_next (get_or octets at 0) (drop (at + 1) octets) later
 
-pub begins_nowhere : (octets : List ℕ) (start at : ℕ) → from_marker (drop start octets) ≡ from_marker (drop at octets) → length octets ≤ at
+pub begins_never : (octets : List ℕ) (start at : ℕ) → from_marker (drop start octets) ≡ from_marker (drop at octets) → length octets ≤ at
     → drop (length octets) octets ≡ from_marker (drop start octets)
-begins_nowhere octets start at same h =
+begins_never octets start at same h =
     drop_all (length octets) octets (omega arith) ∙ sym (same ∙ ap from_marker (drop_all at octets h))
 
 pub moved : (old now_there : List ℕ) (at end : ℕ) → at ≤ end → end ≤ length old → now_there ≡ copy_within old at end 0
@@ -134,13 +137,15 @@ pub place_waits : (profile : Profile) (octets : List ℕ) (next after : Heard) �
     → from_place profile octets next after ≡ waiting octets
 place_waits profile octets next after e h =
     cond-true (may_begin octets) (begun profile octets next after) next e
-    ∙ cond-true (nat_lt (length octets) (profile.tm.length + 4)) (waiting octets) (later profile octets next after) (lt-ltb (length octets) (profile.tm.length + 4) h)
+    ∙ cond-true (nat_lt (length octets) (profile.tm.length + 4)) (waiting octets) (later profile octets next after)
+    (lt-ltb (length octets) (profile.tm.length + 4) h)
 
 place_whole : (profile : Profile) (octets : List ℕ) (next after : Heard) → may_begin octets ≡ true → profile.tm.length + 4 ≤ length octets
     → from_place profile octets next after ≡ later profile octets next after
 place_whole profile octets next after e h =
     cond-true (may_begin octets) (begun profile octets next after) next e
-    ∙ cond-false (nat_lt (length octets) (profile.tm.length + 4)) (waiting octets) (later profile octets next after) (le-ltb (length octets) (profile.tm.length + 4) h)
+    ∙ cond-false (nat_lt (length octets) (profile.tm.length + 4)) (waiting octets) (later profile octets next after)
+    (le-ltb (length octets) (profile.tm.length + 4) h)
 
 pub place_found : (profile : Profile) (octets : List ℕ) (next after : Heard) → may_begin octets ≡ true → profile.tm.length + 4 ≤ length octets
     → is_tm_frame profile (behind profile octets) ≡ true → from_place profile octets next after ≡ first_heard (behind profile octets) after
@@ -176,12 +181,15 @@ heard_few profile (octet ∷ octets) h =
     let next = heard profile 0 octets in
     let after = heard profile (profile.tm.length + 3) octets in
     elim (cases_Bool (may_begin (octet ∷ octets))) [
-      | inl good ↦ heard_at profile octet octets ∙ place_waits profile (octet ∷ octets) next after good h ∙ ap waiting (sym (from_here octet octets good))
-      | inr not_here ↦ heard_at profile octet octets ∙ place_passed profile (octet ∷ octets) next after not_here ∙ heard_few profile octets (omega arith)
+      | inl good ↦ heard_at profile octet octets ∙ place_waits profile (octet ∷ octets) next after good h
+          ∙ ap waiting (sym (from_here octet octets good))
+      | inr not_here ↦ heard_at profile octet octets ∙ place_passed profile (octet ∷ octets) next after not_here
+          ∙ heard_few profile octets (omega arith)
           ∙ ap waiting (sym (from_next octet octets not_here))
     ]
 
-heard_begun : (profile : Profile) (octets : List ℕ) → may_begin octets ≡ true → length octets < profile.tm.length + 4 → heard profile 0 octets ≡ waiting octets
+heard_begun : (profile : Profile) (octets : List ℕ) → may_begin octets ≡ true → length octets < profile.tm.length + 4
+    → heard profile 0 octets ≡ waiting octets
 heard_begun profile [] e h = nothing_heard profile
 heard_begun profile (octet ∷ octets) e h =
     heard_at profile octet octets
@@ -196,7 +204,8 @@ heard_whole profile [] e h good = absurd (omega arith)
 heard_whole profile (octet ∷ octets) e h good =
     let all = all_behind profile (octet ∷ octets) h in
     heard_at profile octet octets
-    ∙ place_found profile (octet ∷ octets) (heard profile 0 octets) (heard profile (profile.tm.length + 3) octets) e (omega arith) (ap (is_tm_frame profile) all ∙ good)
+    ∙ place_found profile (octet ∷ octets) (heard profile 0 octets) (heard profile (profile.tm.length + 3) octets) e (omega arith)
+    (ap (is_tm_frame profile) all ∙ good)
     ∙ ap (λ r. first_heard (behind profile (octet ∷ octets)) r) (all_passed profile (profile.tm.length + 3) octets (omega arith))
     ∙ ap (λ l. first_heard l (waiting [])) all
 
@@ -214,7 +223,8 @@ heard_fault profile (octet ∷ octets) e h fault =
 one_longer : (waits : List ℕ) (octet : ℕ) → length (waits ++ octet ∷ []) ≡ length waits + 1
 one_longer waits octet = length-append waits (octet ∷ [])
 
-still_begun : (profile : Profile) (waits : List ℕ) (octet : ℕ) → IsWaiting profile waits → 4 < length (waits ++ octet ∷ []) → may_begin (waits ++ octet ∷ []) ≡ true
+still_begun : (profile : Profile) (waits : List ℕ) (octet : ℕ) → IsWaiting profile waits → 4 < length (waits ++ octet ∷ [])
+    → may_begin (waits ++ octet ∷ []) ≡ true
 still_begun profile waits octet wait h = begins_more waits (octet ∷ []) (omega (arith, one_longer waits octet)) ∙ wait.begun
 
 pub few_taken : (profile : Profile) (waits : List ℕ) (octet : ℕ) → length (waits ++ octet ∷ []) ≤ 4
@@ -230,7 +240,8 @@ whole_length : (profile : Profile) (waits : List ℕ) (octet : ℕ) → IsWaitin
 whole_length profile waits octet wait h = let few = wait.few in omega (arith, one_longer waits octet)
 
 pub frame_taken : (profile : Profile) (waits : List ℕ) (octet : ℕ) → IsWaiting profile waits → 4 < length (waits ++ octet ∷ [])
-    → profile.tm.length + 4 ≤ length (waits ++ octet ∷ []) → is_tm_frame profile (take (length (waits ++ octet ∷ []) - 4) (drop 4 (waits ++ octet ∷ []))) ≡ true
+    → profile.tm.length + 4 ≤ length (waits ++ octet ∷ [])
+    → is_tm_frame profile (take (length (waits ++ octet ∷ []) - 4) (drop 4 (waits ++ octet ∷ []))) ≡ true
     → heard_in true (waits ++ octet ∷ []) ≡ heard profile 0 (waits ++ octet ∷ [])
 frame_taken profile waits octet wait h k good =
     sym
@@ -238,7 +249,8 @@ frame_taken profile waits octet wait h k good =
     (ap (is_tm_frame profile) (sym (take_rest (waits ++ octet ∷ []) 4)) ∙ good))
 
 pub fault_taken : (profile : Profile) (waits : List ℕ) (octet : ℕ) → IsWaiting profile waits → 4 < length (waits ++ octet ∷ [])
-    → profile.tm.length + 4 ≤ length (waits ++ octet ∷ []) → is_tm_frame profile (take (length (waits ++ octet ∷ []) - 4) (drop 4 (waits ++ octet ∷ []))) ≡ false
+    → profile.tm.length + 4 ≤ length (waits ++ octet ∷ [])
+    → is_tm_frame profile (take (length (waits ++ octet ∷ []) - 4) (drop 4 (waits ++ octet ∷ []))) ≡ false
     → heard_in false (from_marker (drop 1 (waits ++ octet ∷ []))) ≡ heard profile 0 (waits ++ octet ∷ [])
 fault_taken profile waits octet wait h k fault =
     sym

@@ -1,16 +1,19 @@
 -- Decimal numbers as they are read.
-use Rattle.std.proofs.Common.{◌≡◌, ◌≢◌, ◌↔◌, ℕ, ℤ, pos, negsuc, ◌<◌, ◌≤◌, ◌^◌, Bool, true, false, IsTrue, Option, Some, None, Result, Ok, Err, List, ◌∷◌, length, get_or, refl, ap, zero, suc, ◌∙◌, sym, ⊎_elim, arith}
+use Rattle.std.proofs.Common.{◌≡◌, ◌≢◌, ◌↔◌, ℕ, ℤ, pos, negsuc, ◌<◌, ◌≤◌, ◌^◌, Bool, true, false, IsTrue, Option, Some, None, Result, Ok, Err, List}
+use Rattle.std.proofs.Common.{◌∷◌, length, get_or, refl, ap, zero, suc, ◌∙◌, sym, ⊎_elim, arith}
 use Rattle.std.specs.Result.{result_ok}
 use Rattle.std.specs.Fmt.{decimal, signed_decimal}
 use Rattle.std.specs.Str.{IsUtf8}
 use Rattle.std.specs.Str.Parse.{AllDigits, digits_value, ParsesUnsigned}
 use Rattle.std.proofs.lemmas.Str.{IsUtf8-from_ascii}
 use Rattle.std.proofs.lemmas.Str.Parse.{IsNumeralModel, numerals_by_value, tells_digits, digit_at, parse_plain}
-use Rattle.std.proofs.lemmas.Fmt.{decimal_nonempty, first_decimal, decimal_digit, digits_decimal, decimal-digits_value, parse-decimal, IsAscii-decimal, decimal_injective}
+use Rattle.std.proofs.lemmas.Fmt.{decimal_nonempty, first_decimal, decimal_digit, digits_decimal, decimal-digits_value, parse-decimal}
+use Rattle.std.proofs.lemmas.Fmt.{IsAscii-decimal, decimal_injective}
 use Rattle.std.proofs.lemmas.Bool.{cases_lt}
 use Rattle.std.proofs.lemmas.Int.{ints}
 use Rattle.std.proofs.Math.IntN.{neg_ℤ}
-use Rattle.tc_octets.specs.ProfileKeys.{IsEpoch, ReadsWord}
+use Rattle.tc_octets.specs.Epochs.{IsEpoch}
+use Rattle.tc_octets.specs.ProfileKeys.{ReadsWord}
 
 -- std's words for digits and their value
 pub numeral : IsNumeralModel (AllDigits 10) (digits_value 10)
@@ -48,7 +51,8 @@ pub not_text : (word : List ℕ) → (IsUtf8 word → ⊥) → ReadsWord decimal
 not_text word h =
     record { found = tt; only = λ x small is. absurd (h (rw is (IsUtf8-from_ascii (decimal x) (IsAscii-decimal x (omega arith))))) }
 
-pub parsed : {E : Type 0} (word : List ℕ) (b : Bool) (r : Result ℕ E) → (IsTrue b ↔ IsShortest word) → b ≡ true → ParsesUnsigned 32 10 word r → ReadsWord decimal IsSmall word (result_ok r)
+pub parsed : {E : Type 0} (word : List ℕ) (b : Bool) (r : Result ℕ E) → (IsTrue b ↔ IsShortest word) → b ≡ true → ParsesUnsigned 32 10 word r
+    → ReadsWord decimal IsSmall word (result_ok r)
 parsed {E = E} word b (Ok n) h e p =
     let plain : IsShortest word = h.0 e in
     let value = parse_plain numeral {E = E} 32 word (Ok n) p plain.0 in
@@ -71,7 +75,8 @@ no_minus n digits h e =
     omega arith
 
 -- a word with a minus in front spells a negative number alone
-pub minus_is : (digits : List ℕ) (z : ℤ) → IsEpoch z → 45 ∷ digits ≡ signed_decimal z → (m : ℕ) × (z ≡ negsuc m) × (digits ≡ decimal (suc m)) × (suc m ≤ 378691200)
+pub minus_is : (digits : List ℕ) (z : ℤ) → IsEpoch z → 45 ∷ digits ≡ signed_decimal z
+    → (m : ℕ) × (z ≡ negsuc m) × (digits ≡ decimal (suc m)) × (suc m ≤ 378691200)
 minus_is digits (pos n) h e = absurd (no_minus n digits (let small : n < 2 ^ 32 = small_epoch n h in omega arith) e)
 minus_is digits (negsuc m) h e = (m, refl, cc, omega (arith, ints, h.0))
 
@@ -86,7 +91,8 @@ back_none digits h =
     }
 
 -- 0 has no sign, and no epoch is as early as that
-pub back_outside : (digits : List ℕ) (n : ℕ) → digits ≡ decimal n → n < 2 ^ 32 → (0 < n → n ≤ 378691200 → ⊥) → ReadsWord signed_decimal IsEpoch (45 ∷ digits) None
+pub back_outside : (digits : List ℕ) (n : ℕ) → digits ≡ decimal n → n < 2 ^ 32 → (0 < n → n ≤ 378691200 → ⊥)
+    → ReadsWord signed_decimal IsEpoch (45 ∷ digits) None
 back_outside digits n h below outside =
     record {
       found = tt;
@@ -97,7 +103,8 @@ back_outside digits n h below outside =
           absurd (outside (omega arith) (omega arith));
     }
 
-pub back_some : (digits : List ℕ) (n : ℕ) (y : ℤ) → digits ≡ decimal n → 0 < n → n ≤ 378691200 → y ≡ neg_ℤ (pos n) → ReadsWord signed_decimal IsEpoch (45 ∷ digits) (Some y)
+pub back_some : (digits : List ℕ) (n : ℕ) (y : ℤ) → digits ≡ decimal n → 0 < n → n ≤ 378691200 → y ≡ neg_ℤ (pos n)
+    → ReadsWord signed_decimal IsEpoch (45 ∷ digits) (Some y)
 back_some digits zero y e more small is = absurd (omega arith)
 back_some digits (suc m) y e more small is =
     let here : y ≡ negsuc m = omega (arith, ints, is) in

@@ -1,8 +1,9 @@
 -- What is printed of a profile reads back.
-use Rattle.std.proofs.Common.{◌≡◌, ◌≢◌, ◌⊎◌, ℕ, ℤ, pos, negsuc, ◌+◌, ◌-◌, ◌*◌, ◌<◌, ◌≤◌, ◌^◌, zero, suc, Bool, true, false, ◌&&◌, None, List, [], ◌∷◌, ◌++◌, length, map, get_or, refl, ap, ◌∙◌, sym, ⊎_elim, arith, lit≤, lit<, ◌≤ℤ◌}
+use Rattle.std.proofs.Common.{◌≡◌, ◌≢◌, ℕ, ℤ, pos, negsuc, ◌-◌, ◌*◌, ◌<◌, ◌≤◌, ◌^◌, zero, suc, Bool, true, false, ◌&&◌, None, List, [], ◌∷◌}
+use Rattle.std.proofs.Common.{◌++◌, length, map, get_or, refl, ap, ◌∙◌, sym, ⊎_elim, arith, lit≤, lit<, ◌≤ℤ◌}
 use Rattle.std.specs.Prelude.{codes, nat_le}
 use Rattle.std.specs.List.{list_all, flat_map, slice_split, All}
-use Rattle.std.specs.Fmt.{decimal, signed_decimal, digits}
+use Rattle.std.specs.Fmt.{decimal, signed_decimal}
 use Rattle.std.specs.Str.Lines.{lines, lines_of_parts, strip_carriage_return}
 use Rattle.std.specs.Str.Parse.{AllDigits}
 use Rattle.std.proofs.lemmas.Bool.{ne_eqb, le-leb, leb-true, and_parts}
@@ -15,7 +16,8 @@ use Rattle.std.proofs.lemmas.Str.Parse.{digit_from_value}
 use Rattle.tc_octets.specs.declared.keys.Key.{Key}
 use Rattle.tc_octets.specs.declared.keys.Key.TheVariants as keys
 use Rattle.tc_octets.specs.ProfileKeys.{all_keys, name_of, IsValue, IsNumber, IsWindow, yes_no}
-use Rattle.tc_octets.specs.ProfileTexts.{Said, setting, bad, is_printable, trimmed, trimmed_start, statement_in, statement_of, statements, value_of, SaysAt}
+use Rattle.tc_octets.specs.ProfileTexts.{Said, setting, is_printable, trimmed, trimmed_start, statement_in, statement_of, statements, value_of}
+use Rattle.tc_octets.specs.ProfileTexts.{SaysAt}
 use Rattle.tc_octets.proofs.NumberWords.{numeral}
 use Rattle.tc_octets.proofs.LineLemmas.{is_end, parts_nonempty, more_parts, start_stays, end_stays}
 
@@ -186,7 +188,8 @@ not_space : (octet : ℕ) → is_solid octet ≡ true → octet ≢ 32
 not_space octet h e = let bad : is_solid 32 ≡ true = rw e at h in absurd (cc)
 
 -- the last octet of a word
-last_solid : (word : List ℕ) → 0 < length word → list_all is_solid word ≡ true → (front : List ℕ) × (last : ℕ) × (word ≡ front ++ (last ∷ [])) × (last ≢ 32)
+last_solid : (word : List ℕ) → 0 < length word → list_all is_solid word ≡ true
+    → (front : List ℕ) × (last : ℕ) × (word ≡ front ++ (last ∷ [])) × (last ≢ 32)
 last_solid [] some all = absurd (omega arith)
 last_solid (octet ∷ []) some all = ([], octet, refl, not_space octet (and_parts (is_solid octet) true all).0)
 last_solid (octet ∷ next ∷ word) some all =
@@ -235,20 +238,24 @@ no_end line all = λ k d h. ends_no_line (get_or line k d) (AllPass-from_list_al
 
 no_return : (line : List ℕ) → 0 < length line → list_all is_printable line ≡ true → strip_carriage_return line ≡ line
 no_return line some all =
-    let here : is_printable (get_or line (length line - 1) 0) ≡ true = AllPass-from_list_all is_printable line all (length line - 1) 0 (omega arith) in
+    let here : is_printable (get_or line (length line - 1) 0) ≡ true =
+    AllPass-from_list_all is_printable line all (length line - 1) 0 (omega arith) in
     rw (ne_eqb (get_or line (length line - 1) 0) 13 (λ e. let bad : is_printable 13 ≡ true = rw e at here in absurd (cc))) refl
 
-pub lines_back : (line : Key → List ℕ) → ((key : Key) → 0 < length (line key)) → ((key : Key) → list_all is_printable (line key) ≡ true) → (all : List Key)
+pub lines_back : (line : Key → List ℕ) → ((key : Key) → 0 < length (line key)) → ((key : Key) → list_all is_printable (line key) ≡ true)
+    → (all : List Key)
     → lines (flat_map (λ key. line key ++ (10 ∷ [])) all) ≡ map line all
 lines_back line some printable [] = refl
 lines_back line some printable (key ∷ others) =
     let rest : List ℕ = flat_map (λ key. line key ++ (10 ∷ [])) others in
     let parts : slice_split is_end ((line key ++ (10 ∷ [])) ++ rest) ≡ line key ∷ slice_split is_end rest =
-    ap (slice_split is_end) (append_assoc (line key) (10 ∷ []) rest) ∙ slice_split_at is_end (line key) 10 rest (no_end (line key) (printable key)) refl in
+    ap (slice_split is_end) (append_assoc (line key) (10 ∷ []) rest)
+    ∙ slice_split_at is_end (line key) 10 rest (no_end (line key) (printable key)) refl in
     ap lines_of_parts parts ∙ more_parts (line key) (slice_split is_end rest) (parts_nonempty rest)
     ∙ rw (no_return (line key) (some key) (printable key), lines_back line some printable others) refl
 
-few_octets : (line : Key → List ℕ) → ((key : Key) → length (line key) ≤ 36) → (all : List Key) → length (flat_map (λ key. line key ++ (10 ∷ [])) all) ≤ 37 * length all
+few_octets : (line : Key → List ℕ) → ((key : Key) → length (line key) ≤ 36) → (all : List Key)
+    → length (flat_map (λ key. line key ++ (10 ∷ [])) all) ≤ 37 * length all
 few_octets line short [] = omega arith
 few_octets line short (key ∷ others) =
     let here = short key in
@@ -265,7 +272,8 @@ settings_with words = map (λ key. setting (name_of key) (words key)) all_keys
 
 pub text_short : (words : Key → List ℕ) → ((key : Key) → IsWord (words key)) → length (text_with words) ≤ 4096
 text_short words h =
-    let few : length (text_with words) ≤ 37 * length all_keys = few_octets (λ key. line_with key (words key)) (λ key. line_short key (words key) (h key)) all_keys in
+    let few : length (text_with words) ≤ 37 * length all_keys =
+    few_octets (λ key. line_with key (words key)) (λ key. line_short key (words key) (h key)) all_keys in
     let sixteen : length all_keys ≡ 16 = refl in omega arith
 
 lines_say : (words : Key → List ℕ) → ((key : Key) → IsWord (words key)) → (all : List Key)
@@ -275,7 +283,8 @@ lines_say words h (key ∷ others) = rw (line_says key (words key) (h key), line
 
 pub text_says : (words : Key → List ℕ) → ((key : Key) → IsWord (words key)) → statements (text_with words) ≡ settings_with words
 text_says words h =
-    ap (map statement_of) (lines_back (λ key. line_with key (words key)) (λ key. line_some key (words key) (h key)) (λ key. line_printable key (words key) (h key)) all_keys)
+    ap (map statement_of) (lines_back (λ key. line_with key (words key)) (λ key. line_some key (words key) (h key))
+    (λ key. line_printable key (words key) (h key)) all_keys)
     ∙ lines_say words h all_keys
 
 pub settings_give : (words : Key → List ℕ) (key : Key) → value_of key (settings_with words) ≡ words key
@@ -296,7 +305,8 @@ settings_give words keys.TimeEpoch = refl
 settings_give words keys.TimeFine = refl
 settings_give words keys.Rehearsal = refl
 
-pub settings_sound : (words : Key → List ℕ) → ((key : Key) → IsValue key (words key)) → (place : ℕ) → place < 16 → SaysAt (settings_with words) place None
+pub settings_sound : (words : Key → List ℕ) → ((key : Key) → IsValue key (words key)) → (place : ℕ) → place < 16
+    → SaysAt (settings_with words) place None
 settings_sound words h zero below = (keys.Scid, refl, refl, h keys.Scid)
 settings_sound words h (suc zero) below = (keys.TcVcid, refl, refl, h keys.TcVcid)
 settings_sound words h (suc (suc zero)) below = (keys.TcMap, refl, refl, h keys.TcMap)
@@ -310,7 +320,11 @@ settings_sound words h (suc (suc (suc (suc (suc (suc (suc (suc (suc zero))))))))
 settings_sound words h (suc (suc (suc (suc (suc (suc (suc (suc (suc (suc zero)))))))))) below = (keys.TmFecf, refl, refl, h keys.TmFecf)
 settings_sound words h (suc (suc (suc (suc (suc (suc (suc (suc (suc (suc (suc zero))))))))))) below = (keys.Apid, refl, refl, h keys.Apid)
 settings_sound words h (suc (suc (suc (suc (suc (suc (suc (suc (suc (suc (suc (suc zero)))))))))))) below = (keys.Source, refl, refl, h keys.Source)
-settings_sound words h (suc (suc (suc (suc (suc (suc (suc (suc (suc (suc (suc (suc (suc zero))))))))))))) below = (keys.TimeEpoch, refl, refl, h keys.TimeEpoch)
-settings_sound words h (suc (suc (suc (suc (suc (suc (suc (suc (suc (suc (suc (suc (suc (suc zero)))))))))))))) below = (keys.TimeFine, refl, refl, h keys.TimeFine)
-settings_sound words h (suc (suc (suc (suc (suc (suc (suc (suc (suc (suc (suc (suc (suc (suc (suc zero))))))))))))))) below = (keys.Rehearsal, refl, refl, h keys.Rehearsal)
-settings_sound words h (suc (suc (suc (suc (suc (suc (suc (suc (suc (suc (suc (suc (suc (suc (suc (suc place)))))))))))))))) below = absurd (omega arith)
+settings_sound words h (suc (suc (suc (suc (suc (suc (suc (suc (suc (suc (suc (suc (suc zero))))))))))))) below =
+    (keys.TimeEpoch, refl, refl, h keys.TimeEpoch)
+settings_sound words h (suc (suc (suc (suc (suc (suc (suc (suc (suc (suc (suc (suc (suc (suc zero)))))))))))))) below =
+    (keys.TimeFine, refl, refl, h keys.TimeFine)
+settings_sound words h (suc (suc (suc (suc (suc (suc (suc (suc (suc (suc (suc (suc (suc (suc (suc zero))))))))))))))) below =
+    (keys.Rehearsal, refl, refl, h keys.Rehearsal)
+settings_sound words h (suc (suc (suc (suc (suc (suc (suc (suc (suc (suc (suc (suc (suc (suc (suc (suc place)))))))))))))))) below =
+    absurd (omega arith)

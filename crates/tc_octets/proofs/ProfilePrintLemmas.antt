@@ -20,7 +20,9 @@ pub lines_more : (profile : Profile) (index : ℕ) (other : Key) (name : List �
     → flat_map (ended profile) (take index KEYS) ++ (name ++ (codes " = " ++ (spelled profile (get_or KEYS index other) ++ codes "\n")))
     ≡ flat_map (ended profile) (take (index + 1) KEYS)
 lines_more profile index other name below e =
-    ap (λ start. flat_map (ended profile) (take index KEYS) ++ (start ++ (codes " = " ++ (spelled profile (get_or KEYS index other) ++ codes "\n")))) e
-    ∙ ap (λ line. flat_map (ended profile) (take index KEYS) ++ line) (pieces (name_of (get_or KEYS index other)) (codes " = ") (spelled profile (get_or KEYS index other)) (codes "\n"))
+    ap (λ start. flat_map (ended profile) (take index KEYS) ++ (start ++ (codes " = " ++ (spelled profile (get_or KEYS index other) ++ codes "\n"))))
+    e
+    ∙ ap (λ line. flat_map (ended profile) (take index KEYS) ++ line)
+    (pieces (name_of (get_or KEYS index other)) (codes " = ") (spelled profile (get_or KEYS index other)) (codes "\n"))
     ∙ flat_map_more (ended profile) [] (take index KEYS) (get_or KEYS index other)
     ∙ ap (flat_map (ended profile)) (sym (take_more KEYS index other below))

@@ -1,5 +1,6 @@
 -- A text has one answer, a printed profile comes back, and different profiles have different texts.
-use Rattle.std.proofs.Common.{◌≡◌, ◌⊎◌, inl, inr, ℕ, ℤ, pos, negsuc, ◌-◌, ◌%◌, ◌<◌, ◌≤◌, ◌^◌, Bool, true, false, Option, Some, None, Result, Ok, Err, List, length, take, get_or, refl, subst, ap, ◌∙◌, sym, ⊎_elim, arith}
+use Rattle.std.proofs.Common.{◌≡◌, ◌⊎◌, inl, inr, ℕ, ℤ, pos, negsuc, ◌-◌, ◌%◌, ◌<◌, ◌≤◌, ◌^◌, Bool, true, false, Option, Some, None, Result, Ok, Err}
+use Rattle.std.proofs.Common.{List, length, take, get_or, refl, subst, ap, ◌∙◌, sym, ⊎_elim, arith}
 use Rattle.std.specs.Prelude.{codes, IsNone, IsSome}
 use Rattle.std.specs.List.{slice_index_or}
 use Rattle.std.specs.Fmt.{decimal}
@@ -9,6 +10,7 @@ use Rattle.std.proofs.lemmas.Int.{ints}
 use lib.Signed.{mag}
 use mathlib.Core.HLevel.{is_prop→PathP}
 use native.Mathlib.Bridge.{le_prop}
+use denote.Struct.Props.{props}
 use native.Mathlib.Nat.{ℕ_set}
 use Rattle.tc_octets.specs.declared.profiles.Map.{Map}
 use Rattle.tc_octets.specs.declared.profiles.TcChannel.{TcChannel}
@@ -19,8 +21,10 @@ use Rattle.tc_octets.specs.declared.keys.Key.TheVariants as keys
 use Rattle.tc_octets.specs.declared.profile_texts.ProfileWord.{ProfileWord}
 use Rattle.tc_octets.specs.declared.profile_texts.ProfileWord.TheVariants as words
 use Rattle.tc_octets.specs.declared.profile_texts.ProfileFault.{ProfileFault}
-use Rattle.tc_octets.specs.ProfileKeys.{name_of, spelled, IsValue, IsNumber, IsEpoch, yes_no, map_word, fine_word}
-use Rattle.tc_octets.specs.ProfileTexts.{Said, blank, setting, bad, statements, value_in, Says, AreSound, IsFirstFault, Clashes, IsReadable, IsProfile, ProfileReads, Refuses, profile_text, OneAnswer, ProfilesComeBack, ProfileTextsDiffer}
+use Rattle.tc_octets.specs.Epochs.{IsEpoch}
+use Rattle.tc_octets.specs.ProfileKeys.{name_of, spelled, IsValue, IsNumber, yes_no, map_word, fine_word}
+use Rattle.tc_octets.specs.ProfileTexts.{Said, blank, setting, bad, statements, value_in, Says, AreSound, IsFirstFault, Clashes, IsReadable}
+use Rattle.tc_octets.specs.ProfileTexts.{IsProfile, ProfileReads, Refuses, profile_text, OneAnswer, ProfilesComeBack, ProfileTextsDiffer}
 use Rattle.tc_octets.proofs.ProfileTextLemmas.{name_tells}
 use Rattle.tc_octets.proofs.ProfileValueLemmas.{no_word}
 use Rattle.tc_octets.proofs.ProfileLineLemmas.{value_word, text_short, text_says, settings_give, settings_sound, settings_with}
@@ -51,7 +55,8 @@ same_maps (Some a) (Some b) e =
     let other = b.id_fits in
     ap Some (same_map a b (decimal_injective a.id b.id (omega arith) (omega arith) e))
 
-same_tc : (a b : TcChannel) → a.vcid ≡ b.vcid → a.map ≡ b.map → a.window ≡ b.window → a.fecf ≡ b.fecf → a.randomizer ≡ b.randomizer → a.idle ≡ b.idle → a.correct ≡ b.correct → a ≡ b
+same_tc : (a b : TcChannel) → a.vcid ≡ b.vcid → a.map ≡ b.map → a.window ≡ b.window → a.fecf ≡ b.fecf → a.randomizer ≡ b.randomizer → a.idle ≡ b.idle
+    → a.correct ≡ b.correct → a ≡ b
 same_tc a b v m w f r n c = λ i. record {
   vcid = v i;
   map = m i;
@@ -76,7 +81,8 @@ same_tm a b n v f = λ i. record {
   vcid_fits = is_prop→PathP (λ j. v j ≤ 7) (λ j. le_prop) a.vcid_fits b.vcid_fits i;
 }
 
-same_parts : (a b : Profile) → a.scid ≡ b.scid → a.tc ≡ b.tc → a.tm ≡ b.tm → a.apid ≡ b.apid → a.source ≡ b.source → a.epoch ≡ b.epoch → a.fine ≡ b.fine → a.rehearsal ≡ b.rehearsal → a ≡ b
+same_parts : (a b : Profile) → a.scid ≡ b.scid → a.tc ≡ b.tc → a.tm ≡ b.tm → a.apid ≡ b.apid → a.source ≡ b.source → a.epoch ≡ b.epoch
+    → a.fine ≡ b.fine → a.rehearsal ≡ b.rehearsal → a ≡ b
 same_parts a b s t m n o e f r = λ i. record {
   scid = s i;
   tc = t i;
@@ -89,6 +95,7 @@ same_parts a b s t m n o e f r = λ i. record {
   scid_fits = is_prop→PathP (λ j. s j ≤ 1023) (λ j. le_prop) a.scid_fits b.scid_fits i;
   apid_fits = is_prop→PathP (λ j. n j ≤ 2046) (λ j. le_prop) a.apid_fits b.apid_fits i;
   apid_stands = is_prop→PathP (λ j. 1 ≤ n j) (λ j. le_prop) a.apid_stands b.apid_stands i;
+  epoch_fits = is_prop→PathP (λ j. IsEpoch (e j)) (λ j. hlevel props) a.epoch_fits b.epoch_fits i;
 }
 
 same_number : (m n : ℕ) → m ≤ 65535 → n ≤ 65535 → decimal m ≡ decimal n → m ≡ n
@@ -117,14 +124,15 @@ same_profile a b h k each =
     let tc : a.tc ≡ b.tc =
     same_tc a.tc b.tc (same_number a.tc.vcid b.tc.vcid (omega arith) (omega arith) (each keys.TcVcid)) (same_maps a.tc.map b.tc.map (each keys.TcMap))
     (same_number a.tc.window b.tc.window (omega arith) (omega arith) (each keys.TcWindow)) (same_choice a.tc.fecf b.tc.fecf (each keys.TcFecf))
-    (same_choice a.tc.randomizer b.tc.randomizer (each keys.TcRandomizer)) (same_number a.tc.idle b.tc.idle (omega arith) (omega arith) (each keys.TcIdle))
+    (same_choice a.tc.randomizer b.tc.randomizer (each keys.TcRandomizer))
+    (same_number a.tc.idle b.tc.idle (omega arith) (omega arith) (each keys.TcIdle))
     (same_choice a.tc.correct b.tc.correct (each keys.TcCorrect)) in
     let tm : a.tm ≡ b.tm =
     same_tm a.tm b.tm (same_number a.tm.length b.tm.length (omega arith) (omega arith) (each keys.TmLength))
     (same_number a.tm.vcid b.tm.vcid (omega arith) (omega arith) (each keys.TmVcid)) (same_choice a.tm.fecf b.tm.fecf (each keys.TmFecf)) in
     same_parts a b (same_number a.scid b.scid (omega arith) (omega arith) (each keys.Scid)) tc tm
     (same_number a.apid b.apid (omega arith) (omega arith) (each keys.Apid)) (same_number a.source b.source h.source k.source (each keys.Source))
-    (signed_decimal_injective a.epoch b.epoch (small_mag a.epoch h.epoch) (small_mag b.epoch k.epoch) (each keys.TimeEpoch))
+    (signed_decimal_injective a.epoch b.epoch (small_mag a.epoch a.epoch_fits) (small_mag b.epoch b.epoch_fits) (each keys.TimeEpoch))
     (same_fine a.fine b.fine (each keys.TimeFine)) (same_choice a.rehearsal b.rehearsal (each keys.Rehearsal))
 
 -- ---- one answer
@@ -137,7 +145,8 @@ one_key : (name : List ℕ) (a b : Key) → name ≡ name_of a → name ≡ name
 one_key name a b h k = name_tells a b (sym h ∙ k)
 
 -- a key that is given twice is not given once
-twice_or_once : (earlier : List Said) (name : List ℕ) (a b : Key) → name ≡ name_of a → name ≡ name_of b → IsNone (value_in a earlier) → IsSome (value_in b earlier) → ⊥
+twice_or_once : (earlier : List Said) (name : List ℕ) (a b : Key) → name ≡ name_of a → name ≡ name_of b → IsNone (value_in a earlier)
+    → IsSome (value_in b earlier) → ⊥
 twice_or_once earlier name a b h k none some = some_none (value_in a earlier) none (rw (one_key name a b h k) some)
 
 good_or_bad : (name value : List ℕ) (a b : Key) → name ≡ name_of a → name ≡ name_of b → IsValue a value → (IsValue b value → ⊥) → ⊥
@@ -287,7 +296,7 @@ profile_values profile h keys.TmVcid = (profile.tm.vcid, omega arith, profile.tm
 profile_values profile h keys.TmFecf = (profile.tm.fecf, refl)
 profile_values profile h keys.Apid = (profile.apid, profile.apid_stands, profile.apid_fits, refl)
 profile_values profile h keys.Source = (profile.source, omega arith, h.source, refl)
-profile_values profile h keys.TimeEpoch = (profile.epoch, h.epoch, refl)
+profile_values profile h keys.TimeEpoch = (profile.epoch, profile.epoch_fits, refl)
 profile_values profile h keys.TimeFine = fine_value profile.fine
 profile_values profile h keys.Rehearsal = (profile.rehearsal, refl)
 

@@ -1,5 +1,6 @@
 -- What lines give and are refused for, one after the other.
-use Rattle.std.proofs.Common.{◌≡◌, inl, ℕ, pos, ◌+◌, ◌-◌, ◌<◌, ◌≤◌, add-one, below_more, zero, suc, Bool, true, false, nat_eq, Option, Some, None, List, [], ◌∷◌, length, take, drop, get_or, refl, ap, ◌∙◌, sym, arith}
+use Rattle.std.proofs.Common.{◌≡◌, inl, ℕ, pos, ◌+◌, ◌-◌, ◌<◌, ◌≤◌, add-one, below_more, zero, suc, Bool, true, false, nat_eq, Option, Some, None}
+use Rattle.std.proofs.Common.{List, [], ◌∷◌, length, take, drop, get_or, refl, ap, ◌∙◌, sym, arith}
 use Rattle.std.specs.Prelude.{if◌then◌else◌, ⊤, IfSome}
 use Rattle.std.specs.List.{find}
 use Rattle.std.specs.Option.{unwrap_or}
@@ -13,7 +14,8 @@ use Rattle.tc_octets.specs.declared.keys.Key.TheVariants as keys
 use Rattle.tc_octets.specs.declared.keys.TheConstants.{KEYS}
 use Rattle.tc_octets.specs.declared.profile_texts.ProfileWord.{ProfileWord}
 use Rattle.tc_octets.specs.ProfileKeys.{name_of, default_of, IsValue, ReadsWord}
-use Rattle.tc_octets.specs.ProfileTexts.{Said, blank, setting, bad, statement_of, statements, value_given, value_in, value_of, or_later, Says, SaysAt, AreSound, IsFirstFault}
+use Rattle.tc_octets.specs.ProfileTexts.{Said, blank, setting, bad, statement_of, statements, value_given, value_in, value_of, or_later, Says, SaysAt}
+use Rattle.tc_octets.specs.ProfileTexts.{AreSound, IsFirstFault}
 use Rattle.tc_octets.specs.ProfileParts.{AreValues}
 use Rattle.tc_octets.proofs.LineLemmas.{few_lines}
 
@@ -22,27 +24,31 @@ few_statements text = let few = few_lines text in omega (arith, length-map (line
 
 -- ---- the value that lines give
 
-pub value_step : (key : Key) (count : ℕ) (said : Said) (later : List Said) → 0 < count → value_given key said ≡ None → value_in key (take count (said ∷ later)) ≡ value_in key (take (count - 1) later)
-value_step key zero said later some h = absurd (omega arith)
-value_step key (suc count) said later some h =
+pub stepped : (key : Key) (count : ℕ) (said : Said) (later : List Said) → 0 < count → value_given key said ≡ None
+    → value_in key (take count (said ∷ later)) ≡ value_in key (take (count - 1) later)
+stepped key zero said later some h = absurd (omega arith)
+stepped key (suc count) said later some h =
     let same : suc count - 1 ≡ count = omega arith in rw (h, same) refl
 
-pub value_found : (key : Key) (count : ℕ) (said : Said) (later : List Said) (value : List ℕ) → 0 < count → value_given key said ≡ Some value → value_in key (take count (said ∷ later)) ≡ Some value
-value_found key zero said later value some h = absurd (omega arith)
-value_found key (suc count) said later value some h = rw h refl
+pub found : (key : Key) (count : ℕ) (said : Said) (later : List Said) (value : List ℕ) → 0 < count → value_given key said ≡ Some value
+    → value_in key (take count (said ∷ later)) ≡ Some value
+found key zero said later value some h = absurd (omega arith)
+found key (suc count) said later value some h = rw h refl
 
-pub value_end : (key : Key) (count : ℕ) (later : List Said) → later ≡ [] → value_in key (take count later) ≡ None
-value_end key zero later e = refl
-value_end key (suc count) later e = rw e refl
+pub ended : (key : Key) (count : ℕ) (later : List Said) → later ≡ [] → value_in key (take count later) ≡ None
+ended key zero later e = refl
+ended key (suc count) later e = rw e refl
 
 pub all_said : (text : List ℕ) → take (length text) (statements text) ≡ statements text
 all_said text = take_all (length text) (statements text) (few_statements text)
 
-pub given_is : (key : Key) (text value : List ℕ) → Some value ≡ value_in key (take (length text) (statements text)) → value ≡ value_of key (statements text)
+pub given_is : (key : Key) (text value : List ℕ) → Some value ≡ value_in key (take (length text) (statements text))
+    → value ≡ value_of key (statements text)
 given_is key text value e =
     let given : value_in key (statements text) ≡ Some value = sym (e ∙ ap (value_in key) (all_said text)) in rw given refl
 
-pub default_is : (key : Key) (text : List ℕ) → None ≡ value_in key (take (length text) (statements text)) → default_of key ≡ value_of key (statements text)
+pub default_is : (key : Key) (text : List ℕ) → None ≡ value_in key (take (length text) (statements text))
+    → default_of key ≡ value_of key (statements text)
 default_is key text e =
     let given : value_in key (statements text) ≡ None = sym (e ∙ ap (value_in key) (all_said text)) in rw given refl
 
@@ -57,7 +63,8 @@ unfolding key_among
 found_key name [] = tt
 found_key name (key ∷ others) = by_test (pointwise nat_eq name (name_of key)) (bytes_decides name (name_of key)).0 (found_key name others)
   where
-    by_test : (test : Bool) → (test ≡ true → name ≡ name_of key) → IfSome (find (λ at. pointwise nat_eq name (name_of at)) others) (λ at. (name ≡ name_of at) × ⊤)
+    by_test : (test : Bool) → (test ≡ true → name ≡ name_of key)
+        → IfSome (find (λ at. pointwise nat_eq name (name_of at)) others) (λ at. (name ≡ name_of at) × ⊤)
         → IfSome (if test then Some key else find (λ at. pointwise nat_eq name (name_of at)) others) (λ at. (name ≡ name_of at) × ⊤)
     by_test true same others = (same refl, tt)
     by_test false same others = others
@@ -81,7 +88,8 @@ only_key keys.TimeEpoch = refl
 only_key keys.TimeFine = refl
 only_key keys.Rehearsal = refl
 
-pub key_read : (name : List ℕ) (read : Option Key) → read ≡ find (λ key. pointwise nat_eq name (name_of key)) KEYS → ReadsWord name_of (λ key. ⊤) name read
+pub key_read : (name : List ℕ) (read : Option Key) → read ≡ find (λ key. pointwise nat_eq name (name_of key)) KEYS
+    → ReadsWord name_of (λ key. ⊤) name read
 unfolding key_among
 key_read name read e = record {
   found = rw e (found_key name KEYS);
@@ -123,7 +131,8 @@ sound_more said later count first e sound h = below_more (λ place. SaysAt said 
 pub sound_all : (said : List Said) (count : ℕ) → drop count said ≡ [] → AreSound count said → AreSound (length said) said
 sound_all said count e sound = λ place below. sound place (omega (arith, none_left said count e))
 
-pub fault_here : (said later : List Said) (count line : ℕ) (first : Said) (word : ProfileWord) → line ≡ count + 1 → drop count said ≡ first ∷ later → AreSound count said
+pub fault_here : (said later : List Said) (count line : ℕ) (first : Said) (word : ProfileWord) → line ≡ count + 1 → drop count said ≡ first ∷ later
+    → AreSound count said
     → Says (take count said) first (Some word) → IsFirstFault said line word
 fault_here said later count line first word is e sound h =
     let there = left_at said count blank first later e in
@@ -147,7 +156,8 @@ few_left text count first later e =
 abbrev IsTaken : Said → Type 0
 IsTaken said = (earlier : List Said) × Says earlier said None
 
-given_by : (test : Bool) (key named : Key) (name value given : List ℕ) → (test ≡ true → name ≡ name_of key) → name ≡ name_of named → IsValue named value
+given_by : (test : Bool) (key named : Key) (name value given : List ℕ) → (test ≡ true → name ≡ name_of key) → name ≡ name_of named
+    → IsValue named value
     → (if test then Some value else None) ≡ Some given → IsValue key given
 given_by true key named name value given same is h e =
     let one : named ≡ key = name_tells named key (sym is ∙ same refl) in
@@ -161,12 +171,14 @@ taken_value key (setting name value) given h e =
     given_by (pointwise nat_eq name (name_of key)) key h.1.0 name value given (bytes_decides name (name_of key)).0 h.1.1 h.1.3 e
 taken_value key bad given h e = absurd (cc)
 
-values_later : (key : Key) (later : List Said) (given : List ℕ) → ((place : ℕ) → place < length later → IsTaken (get_or later place blank)) → value_in key later ≡ Some given → IsValue key given
+values_later : (key : Key) (later : List Said) (given : List ℕ) → ((place : ℕ) → place < length later → IsTaken (get_or later place blank))
+    → value_in key later ≡ Some given → IsValue key given
 values_later key [] given each e = absurd (cc)
 values_later key (said ∷ later) given each e =
     by_first (value_given key said) refl (λ rest. values_later key later given (λ place below. each (suc place) (omega arith)) rest) e
   where
-    by_first : (first : Option (List ℕ)) → value_given key said ≡ first → (value_in key later ≡ Some given → IsValue key given) → or_later first (value_in key later) ≡ Some given → IsValue key given
+    by_first : (first : Option (List ℕ)) → value_given key said ≡ first → (value_in key later ≡ Some given → IsValue key given)
+        → or_later first (value_in key later) ≡ Some given → IsValue key given
     by_first None is others rest = others rest
     by_first (Some value) is others rest = taken_value key said given (each 0 (omega arith)) (is ∙ rest)
 
@@ -189,7 +201,8 @@ default_value keys.TimeEpoch = (pos 0, (omega (arith, ints), omega (arith, ints)
 default_value keys.TimeFine = inl refl
 default_value keys.Rehearsal = (true, refl)
 
-value_by : (key : Key) (given : Option (List ℕ)) → ((value : List ℕ) → given ≡ Some value → IsValue key value) → IsValue key (unwrap_or given (default_of key))
+value_by : (key : Key) (given : Option (List ℕ)) → ((value : List ℕ) → given ≡ Some value → IsValue key value)
+    → IsValue key (unwrap_or given (default_of key))
 value_by key None each = default_value key
 value_by key (Some value) each = each value refl
 

@@ -1,14 +1,17 @@
 -- Values of a profile as they are read from a text without a fault.
-use Rattle.std.proofs.Common.{◌≡◌, ◌↔◌, ◌⊎◌, ℕ, ℤ, ◌%◌, ◌<◌, ◌≤◌, ◌^◌, Bool, true, false, IsTrue, Option, Some, None, List, get_or, refl, ap, ◌∙◌, sym, ⊎_elim, arith}
+use Rattle.std.proofs.Common.{◌≡◌, ◌↔◌, ◌⊎◌, ℕ, ℤ, ◌%◌, ◌<◌, ◌≤◌, ◌^◌, Bool, true, false, IsTrue, Option, Some, None, List, get_or, refl, ap, ◌∙◌}
+use Rattle.std.proofs.Common.{sym, ⊎_elim, arith}
 use Rattle.std.specs.Prelude.{codes}
 use Rattle.std.specs.Option.{unwrap_or}
 use Rattle.std.specs.Fmt.{decimal, signed_decimal}
 use Rattle.std.proofs.lemmas.Fmt.{decimal_injective}
-use Rattle.tc_octets.specs.ProfileKeys.{IsNumber, IsWindow, IsYesOrNo, IsEpoch, IsSeconds, ReadsWord, yes_no, fine_word}
+use Rattle.tc_octets.specs.Epochs.{IsEpoch}
+use Rattle.tc_octets.specs.ProfileKeys.{IsNumber, IsWindow, IsYesOrNo, IsSeconds, ReadsWord, yes_no, fine_word}
 use Rattle.tc_octets.specs.ProfileParts.{IsNumberIn}
 use Rattle.tc_octets.proofs.NumberWords.{IsSmall, first_digit}
 
-pub number_is : (word : List ℕ) (read : Option ℕ) (other least most : ℕ) → ReadsWord decimal IsSmall word read → most < 2 ^ 32 → IsNumber least most word
+pub number_is : (word : List ℕ) (read : Option ℕ) (other least most : ℕ) → ReadsWord decimal IsSmall word read → most < 2 ^ 32
+    → IsNumber least most word
     → IsNumberIn least most (unwrap_or read other) word
 number_is word read other least most reads small is =
     let below : is.0 < 2 ^ 32 = omega (arith, is.2) in
@@ -32,7 +35,8 @@ no_word n small e =
 
 pub no_map : (word : List ℕ) → ReadsWord decimal IsSmall word None → (word ≡ codes "none") ⊎ IsNumber 0 63 word → codes "none" ≡ word
 no_map word reads is =
-    ⊎_elim (λ e. sym e) (λ (number : IsNumber 0 63 word). let below : number.0 < 2 ^ 32 = omega (arith, number.2) in let wrong : ◌≡◌ {A = Option ℕ} None (Some number.0) = reads.only number.0 below number.3 in absurd (cc)) is
+    ⊎_elim (λ e. sym e) (λ (number : IsNumber 0 63 word). let below : number.0 < 2 ^ 32 =
+    omega (arith, number.2) in let wrong : ◌≡◌ {A = Option ℕ} None (Some number.0) = reads.only number.0 below number.3 in absurd (cc)) is
 
 pub some_map : (word : List ℕ) (id : ℕ) → ReadsWord decimal IsSmall word (Some id) → (word ≡ codes "none") ⊎ IsNumber 0 63 word → id ≤ 63
 some_map word id reads is =

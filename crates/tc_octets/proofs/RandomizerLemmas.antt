@@ -1,15 +1,16 @@
 -- The randomizer: one octet more, and twice is nothing.
-use Rattle.std.proofs.Common.{◌≡◌, ℕ, zero, suc, ◌+◌, ◌<◌, ◌≤◌, List, [], ◌∷◌, ◌++◌, take, drop, length, get_or, set, refl, sym, ap, ◌∙◌, add-one, arith}
+use Rattle.std.proofs.Common.{◌≡◌, ℕ, ◌+◌, ◌<◌, ◌≤◌, List, [], ◌∷◌, ◌++◌, take, drop, length, get_or, set, refl, sym, ap, ◌∙◌, add-one}
+use Rattle.std.proofs.Common.{arith}
 use Rattle.std.specs.Prelude.{bit_xor}
 use Rattle.std.specs.Int.Bits.{xor_assoc, xor_self, xor_zero_r}
 use Rattle.std.proofs.lemmas.List.{take_all, drop_all, append-nil, take_more_set, drop-set-lt, drop_more, append_assoc}
 use Rattle.tc_octets.specs.Randomizer.{window_step, windows, next_octet, randomized, randomized_from}
 
-pub window_more : (n window : ℕ) → windows (n + 1) window ≡ windows n (window_step window)
-window_more n window = ap (λ k. windows k window) (add-one n)
+pub more : (n window : ℕ) → windows (n + 1) window ≡ windows n (window_step window)
+more n window = ap (λ k. windows k window) (add-one n)
 
-pub no_windows : (window : ℕ) → windows 0 window ≡ window
-no_windows window = refl
+pub none : (window : ℕ) → windows 0 window ≡ window
+none window = refl
 
 -- the octet of now is done
 pub octet_randomized : (window i : ℕ) (octets : List ℕ) → i < length octets
@@ -18,7 +19,8 @@ pub octet_randomized : (window i : ℕ) (octets : List ℕ) → i < length octet
     ++ randomized_from (next_octet window) (drop (i + 1) (set octets i (bit_xor (get_or octets i 0) window)))
 octet_randomized window i octets h =
     let done = take_more_set octets i (bit_xor (get_or octets i 0) window) h in
-    let rest : drop (i + 1) (set octets i (bit_xor (get_or octets i 0) window)) ≡ drop (i + 1) octets = drop-set-lt (i + 1) octets i (bit_xor (get_or octets i 0) window) (omega arith) in
+    let rest : drop (i + 1) (set octets i (bit_xor (get_or octets i 0) window)) ≡ drop (i + 1) octets =
+    drop-set-lt (i + 1) octets i (bit_xor (get_or octets i 0) window) (omega arith) in
     rw (done, rest, drop_more octets i 0 h)
     (sym (append_assoc (take i octets) (bit_xor (get_or octets i 0) window ∷ []) (randomized_from (next_octet window) (drop (i + 1) octets))))
 

@@ -1,9 +1,11 @@
 -- Registers of codes: they are linear, and their parity is that of the bits that went in.
-use Rattle.std.proofs.Common.{◌≡◌, ℕ, zero, suc, ◌+◌, ◌*◌, ◌/◌, ◌%◌, ◌^◌, ◌<◌, ◌≤◌, List, [], ◌∷◌, ◌++◌, length, refl, sym, ap, ◌∙◌, subst, inl, inr, arith, add-zero, zero-mul, one-mul}
+use Rattle.std.proofs.Common.{◌≡◌, ℕ, zero, suc, ◌+◌, ◌*◌, ◌/◌, ◌%◌, ◌^◌, ◌<◌, ◌≤◌, List, [], ◌∷◌, ◌++◌, length, refl, sym, ap, ◌∙◌, subst, inl, inr}
+use Rattle.std.proofs.Common.{arith, add-zero, zero-mul, one-mul}
 use Rattle.std.specs.Prelude.{◌≢◌, ◌⊎◌, ◌==◌, if◌then◌else◌, bit_xor}
 use Rattle.std.specs.List.{fold}
 use Rattle.std.specs.Int.Bits.{xor_assoc, xor_self, xor_zero_r}
-use Rattle.std.proofs.lemmas.Nat.{xor_comm, xor_lt, xor_shr, xor_mod, xor_block, pow_pos, div_below, mod_below, mod-pow-add, shr_split, ones_cat, ones-le}
+use Rattle.std.proofs.lemmas.Nat.{xor_comm, xor_lt, xor_shr, xor_mod, xor_block, pow_pos, div_below, mod_below, mod-pow-add, shr_split, ones_cat}
+use Rattle.std.proofs.lemmas.Nat.{ones-le}
 use Rattle.std.proofs.lemmas.Grind.{pow_more}
 use Rattle.std.proofs.lemmas.Bool.{cond-true, cond-false}
 use Rattle.std.proofs.lemmas.Bool.Decides.{eqb_tells}
@@ -70,15 +72,18 @@ step_shape : (k mask register bit : ℕ) → register < 2 ^ (k + 1) → bit < 2
 step_shape k mask register bit small h =
     let shifted = register * 2 % 2 ^ (k + 1) in
     elim (step_tells k mask register bit) [
-      | inl t ↦ t.1 ∙ sym (ap (λ x. bit_xor shifted (x * mask)) (ap (λ x. bit_xor x bit) t.0 ∙ xor_self bit) ∙ ap (λ x. bit_xor shifted x) (zero-mul mask) ∙ xor_zero_r shifted)
+      | inl t ↦ t.1 ∙ sym (ap (λ x. bit_xor shifted (x * mask)) (ap (λ x. bit_xor x bit) t.0 ∙ xor_self bit)
+          ∙ ap (λ x. bit_xor shifted x) (zero-mul mask) ∙ xor_zero_r shifted)
       | inr t ↦ t.1
-          ∙ sym (ap (λ x. bit_xor shifted (x * mask)) (bits_differ (register / 2 ^ k) bit (top_small k register small) h t.0) ∙ ap (λ x. bit_xor shifted x) (one-mul mask))
+          ∙ sym (ap (λ x. bit_xor shifted (x * mask)) (bits_differ (register / 2 ^ k) bit (top_small k register small) h t.0)
+          ∙ ap (λ x. bit_xor shifted x) (one-mul mask))
     ]
 
 pub twice_linear : (r s : ℕ) → bit_xor r s * 2 ≡ bit_xor (r * 2) (s * 2)
 twice_linear r s =
     let block : bit_xor (r * 2 + 0) (s * 2 + 0) ≡ bit_xor r s * 2 + 0 = xor_block 1 r s 0 0 (omega arith) (omega arith) in
-    sym (ap (λ x. bit_xor x (s * 2)) (sym (add-zero (r * 2))) ∙ ap (λ x. bit_xor (r * 2 + 0) x) (sym (add-zero (s * 2))) ∙ block ∙ add-zero (bit_xor r s * 2))
+    sym (ap (λ x. bit_xor x (s * 2)) (sym (add-zero (r * 2))) ∙ ap (λ x. bit_xor (r * 2 + 0) x) (sym (add-zero (s * 2))) ∙ block
+    ∙ add-zero (bit_xor r s * 2))
 
 shift_linear : (k r s : ℕ) → bit_xor r s * 2 % 2 ^ (k + 1) ≡ bit_xor (r * 2 % 2 ^ (k + 1)) (s * 2 % 2 ^ (k + 1))
 shift_linear k r s = ap (λ x. x % 2 ^ (k + 1)) (twice_linear r s) ∙ xor_mod (r * 2) (s * 2) (k + 1)
@@ -101,7 +106,8 @@ step_linear k mask r s a b hr hs ha hb =
 
 pub from_linear : (k mask : ℕ) → mask < 2 ^ (k + 1) → (r s : ℕ) (bits errors : List ℕ) → r < 2 ^ (k + 1) → s < 2 ^ (k + 1)
     → length bits ≡ length errors → AllBelow 2 bits → AllBelow 2 errors
-    → fold (register_step k mask) (bit_xor r s) (laid bits errors) ≡ bit_xor (fold (register_step k mask) r bits) (fold (register_step k mask) s errors)
+    → fold (register_step k mask) (bit_xor r s) (laid bits errors)
+    ≡ bit_xor (fold (register_step k mask) r bits) (fold (register_step k mask) s errors)
 from_linear k mask h r s [] [] hr hs e all few = refl
 from_linear k mask h r s [] (b ∷ errors) hr hs e all few = absurd (omega arith)
 from_linear k mask h r s (a ∷ bits) [] hr hs e all few = absurd (omega arith)
@@ -204,7 +210,8 @@ ones_shifted : (k register : ℕ) → count_ones (register * 2 % 2 ^ (k + 1)) �
 ones_shifted k register =
     let half : register * 2 / 2 ^ 1 ≡ register = omega arith in
     let even : register * 2 % 2 ^ 1 ≡ 0 = omega arith in
-    ap count_ones (mod-pow-add (register * 2) k 1 ∙ ap (λ n. (n % 2 ^ k) * 2 ^ 1 + register * 2 % 2 ^ 1) half ∙ ap (λ n. (register % 2 ^ k) * 2 ^ 1 + n) even)
+    ap count_ones (mod-pow-add (register * 2) k 1 ∙ ap (λ n. (n % 2 ^ k) * 2 ^ 1 + register * 2 % 2 ^ 1) half
+    ∙ ap (λ n. (register % 2 ^ k) * 2 ^ 1 + n) even)
     ∙ ones_cat 1 (register % 2 ^ k) 0 (omega arith)
     ∙ ap (λ n. count_ones (register % 2 ^ k) + n) no_ones
     ∙ add-zero (count_ones (register % 2 ^ k))
@@ -218,7 +225,8 @@ ones_split k register small =
 parity_taken : (top bit low whole after : ℕ) → top ≡ bit → whole ≡ top + low → after ≡ low → after % 2 ≡ (whole + bit) % 2
 parity_taken top bit low whole after same sum e = omega arith
 
-parity_laid : (top bit low whole after : ℕ) → top < 2 → bit < 2 → top ≢ bit → whole ≡ top + low → after % 2 ≡ (low + 1) % 2 → after % 2 ≡ (whole + bit) % 2
+parity_laid : (top bit low whole after : ℕ) → top < 2 → bit < 2 → top ≢ bit → whole ≡ top + low → after % 2 ≡ (low + 1) % 2
+    → after % 2 ≡ (whole + bit) % 2
 parity_laid top bit low whole after h k other sum e = omega arith
 
 plus_odd : (low mask : ℕ) → mask % 2 ≡ 1 → (low + mask) % 2 ≡ (low + 1) % 2
@@ -232,18 +240,21 @@ parity_of_step k mask register bit odd small h =
     let moved = ones_shifted k register in
     let whole = ones_split k register small in
     elim (step_tells k mask register bit) [
-      | inl t ↦ parity_taken (register / 2 ^ k) bit low (count_ones register) (count_ones (register_step k mask register bit)) t.0 whole (ap count_ones t.1 ∙ moved)
+      | inl t ↦ parity_taken (register / 2 ^ k) bit low (count_ones register) (count_ones (register_step k mask register bit)) t.0 whole
+          (ap count_ones t.1 ∙ moved)
       | inr t ↦ (let both = parity_of_xor shifted mask in
           let after : count_ones (register_step k mask register bit) % 2 ≡ (low + 1) % 2 =
           ap (λ n. count_ones n % 2) t.1 ∙ both ∙ ap (λ n. (n + count_ones mask) % 2) moved ∙ plus_odd low (count_ones mask) odd in
-          parity_laid (register / 2 ^ k) bit low (count_ones register) (count_ones (register_step k mask register bit)) (top_small k register small) h t.0 whole after)
+          parity_laid (register / 2 ^ k) bit low (count_ones register) (count_ones (register_step k mask register bit)) (top_small k register small)
+          h t.0 whole after)
     ]
 
 parity_joined : (after before bit rest : ℕ) → after % 2 ≡ (before + bit) % 2 → (after + rest) % 2 ≡ (before + (bit + rest)) % 2
 parity_joined after before bit rest e = omega arith
 
 -- the parity of a register is that of what it was and of the bits that it read
-pub parity_kept : (k mask : ℕ) → count_ones mask % 2 ≡ 1 → mask < 2 ^ (k + 1) → (register : ℕ) (bits : List ℕ) → register < 2 ^ (k + 1) → AllBelow 2 bits
+pub parity_kept : (k mask : ℕ) → count_ones mask % 2 ≡ 1 → mask < 2 ^ (k + 1) → (register : ℕ) (bits : List ℕ) → register < 2 ^ (k + 1)
+    → AllBelow 2 bits
     → count_ones (fold (register_step k mask) register bits) % 2 ≡ (count_ones register + ones bits) % 2
 parity_kept k mask odd h register [] small all = ap (λ n. n % 2) (sym (add-zero (count_ones register)))
 parity_kept k mask odd h register (bit ∷ bits) small all =

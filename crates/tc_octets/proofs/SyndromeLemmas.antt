@@ -1,5 +1,6 @@
 -- The syndrome of a block of 64 bits: it is 0 of codeblocks alone, and each bit that is turned lays its own number over it.
-use Rattle.std.proofs.Common.{◌≡◌, ℕ, zero, suc, ◌+◌, ◌*◌, ◌/◌, ◌%◌, ◌^◌, ◌<◌, Bool, true, false, List, [], ◌∷◌, take, length, replicate, get_or, set, refl, sym, ap, ◌∙◌, arith}
+use Rattle.std.proofs.Common.{◌≡◌, ℕ, zero, suc, ◌+◌, ◌*◌, ◌/◌, ◌%◌, ◌^◌, ◌<◌, Bool, true, false, List, [], ◌∷◌, take, length, replicate, get_or, set}
+use Rattle.std.proofs.Common.{refl, sym, ap, ◌∙◌, arith}
 use Rattle.std.specs.Prelude.{◌≢◌, ◌==◌, ◌&&◌, bit_xor, slice_index}
 use Rattle.std.specs.Int.Bits.{xor_assoc, xor_self, xor_zero_r}
 use Rattle.std.proofs.lemmas.Nat.{xor_comm}
@@ -28,7 +29,10 @@ one_bit place = turned place (replicate 8 0)
 -- what each of the 64 bits lays over the syndrome: x ^ (62 - i) modulo the generator, twice; and the filler bit
 abbrev pub changes : List ℕ
 changes =
-    0xc4 ∷ 0x62 ∷ 0xf4 ∷ 0x7a ∷ 0xf8 ∷ 0x7c ∷ 0x3e ∷ 0xda ∷ 0xa8 ∷ 0x54 ∷ 0x2a ∷ 0xd0 ∷ 0x68 ∷ 0x34 ∷ 0x1a ∷ 0xc8 ∷ 0x64 ∷ 0x32 ∷ 0xdc ∷ 0x6e ∷ 0xf2 ∷ 0xbc ∷ 0x5e ∷ 0xea ∷ 0xb0 ∷ 0x58 ∷ 0x2c ∷ 0x16 ∷ 0xce ∷ 0xa2 ∷ 0x94 ∷ 0x4a ∷ 0xe0 ∷ 0x70 ∷ 0x38 ∷ 0x1c ∷ 0x0e ∷ 0xc2 ∷ 0xa4 ∷ 0x52 ∷ 0xec ∷ 0x76 ∷ 0xfe ∷ 0xba ∷ 0x98 ∷ 0x4c ∷ 0x26 ∷ 0xd6 ∷ 0xae ∷ 0x92 ∷ 0x8c ∷ 0x46 ∷ 0xe6 ∷ 0xb6 ∷ 0x9e ∷ 0x8a ∷ 0x80 ∷ 0x40 ∷ 0x20 ∷ 0x10 ∷ 0x08 ∷ 0x04 ∷ 0x02 ∷ 0x01
+    0xc4 ∷ 0x62 ∷ 0xf4 ∷ 0x7a ∷ 0xf8 ∷ 0x7c ∷ 0x3e ∷ 0xda ∷ 0xa8 ∷ 0x54 ∷ 0x2a ∷ 0xd0 ∷ 0x68 ∷ 0x34 ∷ 0x1a ∷ 0xc8 ∷ 0x64 ∷ 0x32 ∷ 0xdc ∷ 0x6e ∷ 0xf2
+    ∷ 0xbc ∷ 0x5e ∷ 0xea ∷ 0xb0 ∷ 0x58 ∷ 0x2c ∷ 0x16 ∷ 0xce ∷ 0xa2 ∷ 0x94 ∷ 0x4a ∷ 0xe0 ∷ 0x70 ∷ 0x38 ∷ 0x1c ∷ 0x0e ∷ 0xc2 ∷ 0xa4 ∷ 0x52 ∷ 0xec
+    ∷ 0x76 ∷ 0xfe ∷ 0xba ∷ 0x98 ∷ 0x4c ∷ 0x26 ∷ 0xd6 ∷ 0xae ∷ 0x92 ∷ 0x8c ∷ 0x46 ∷ 0xe6 ∷ 0xb6 ∷ 0x9e ∷ 0x8a ∷ 0x80 ∷ 0x40 ∷ 0x20 ∷ 0x10 ∷ 0x08
+    ∷ 0x04 ∷ 0x02 ∷ 0x01
     ∷ []
 
 -- ---- linear
@@ -63,14 +67,16 @@ control_laid : (octets errors : List ℕ) → length octets ≡ length errors
 control_laid octets errors e =
     ap (λ n. bit_xor n 0x7f * 2) (remainder_laid octets errors e) ∙ turned_last (bch_from 0 (bits_of octets)) (bch_from 0 (bits_of errors)) 0x7f
 
-syndrome_laid : (block errors : List ℕ) → length block ≡ 8 → length errors ≡ 8 → syndrome (laid block errors) ≡ bit_xor (syndrome block) (change errors)
+syndrome_laid : (block errors : List ℕ) → length block ≡ 8 → length errors ≡ 8
+    → syndrome (laid block errors) ≡ bit_xor (syndrome block) (change errors)
 unfolding syndrome change
 syndrome_laid block errors long h =
     let fronts : length (take 7 block) ≡ length (take 7 errors) =
     length-take-le 7 block (omega arith) ∙ sym (length-take-le 7 errors (omega arith)) in
     ap (λ l. bit_xor (error_control_of l) (get_or (laid block errors) 7 0)) (take-laid 7 block errors (omega arith))
     ∙ ap (λ n. bit_xor n (get_or (laid block errors) 7 0)) (control_laid (take 7 block) (take 7 errors) fronts)
-    ∙ ap (λ n. bit_xor (bit_xor (error_control_of (take 7 block)) (bch_from 0 (bits_of (take 7 errors)) * 2)) n) (get_or-laid block errors 7 (omega arith) (omega arith))
+    ∙ ap (λ n. bit_xor (bit_xor (error_control_of (take 7 block)) (bch_from 0 (bits_of (take 7 errors)) * 2)) n)
+    (get_or-laid block errors 7 (omega arith) (omega arith))
     ∙ swapped (error_control_of (take 7 block)) (bch_from 0 (bits_of (take 7 errors)) * 2) (get_or block 7 0) (get_or errors 7 0)
 
 -- ---- one bit turned
@@ -145,7 +151,8 @@ parity_turned (place ∷ places) block all long =
     let one = ap (λ n. count_ones n % 2) (syndrome_turned place (turned_at places block) all.0 (all_turned_length places block ∙ long)) in
     let both = parity_of_xor (syndrome (turned_at places block)) (get_or changes place 0) in
     parity_one_more (count_ones (syndrome (turned_at (place ∷ places) block))) (count_ones (syndrome (turned_at places block)))
-    (count_ones (get_or changes place 0)) (length places) (count_ones (syndrome block)) (one ∙ both) (change_odd place all.0) (parity_turned places block all.1 long)
+    (count_ones (get_or changes place 0)) (length places) (count_ones (syndrome block)) (one ∙ both) (change_odd place all.0)
+    (parity_turned places block all.1 long)
 
 -- ---- codeblocks
 

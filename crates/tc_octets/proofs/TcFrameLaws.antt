@@ -1,9 +1,11 @@
 -- What holds of telecommand frames: a reader finds nothing to say against a frame, and a frame has one content.
-use Rattle.std.proofs.Common.{◌≡◌, ℕ, ◌+◌, ◌-◌, ◌*◌, ◌/◌, ◌%◌, ◌^◌, ◌<◌, ◌≤◌, Bool, true, false, List, ◌++◌, take, length, get_or, Ok, Err, refl, sym, ap, ◌∙◌, arith}
+use Rattle.std.proofs.Common.{◌≡◌, ℕ, ◌+◌, ◌-◌, ◌*◌, ◌/◌, ◌%◌, ◌^◌, ◌<◌, ◌≤◌, Bool, true, false, List, ◌++◌, take, length, get_or, Ok, Err, refl, sym}
+use Rattle.std.proofs.Common.{ap, ◌∙◌, arith}
 use Rattle.std.proofs.lemmas.List.{take_at, length-append, append_cancel_left, get_or-append-add}
 use Rattle.tc_octets.specs.Bits.{pair, pair_at}
 use Rattle.tc_octets.specs.Crc.{crc_of}
-use Rattle.tc_octets.specs.TcFrames.{Carried, ad, unlock, set_vr, carried_of, check_length, closed, data_field, flags_of, segment_header, header_of, tc_frame_of, IsCarried, Passes, TcFramesComeBack, TcFramesDiffer}
+use Rattle.tc_octets.specs.TcFrames.{Carried, ad, unlock, set_vr, carried_of, check_length, closed, data_field, flags_of, segment_header, header_of}
+use Rattle.tc_octets.specs.TcFrames.{tc_frame_of, IsCarried, Passes, TcFramesComeBack, TcFramesDiffer}
 use Rattle.tc_octets.specs.declared.profiles.TcChannel.{TcChannel}
 use Rattle.tc_octets.specs.declared.profiles.Profile.{Profile}
 use Rattle.tc_octets.specs.declared.tc_frames.TcFault.TheVariants as faults
@@ -66,7 +68,8 @@ header_there profile carried = record {
 told_back : (n vcid last size : ℕ) → n ≡ vcid * 2 ^ 10 + last → last < 2 ^ 10 → size ≡ last + 1 → (n % 2 ^ 10 + 1 ≡ size) × (n / 2 ^ 10 ≡ vcid)
 told_back n vcid last size e h k = (omega arith, omega arith)
 
-first_back : (n flags scid : ℕ) → n ≡ flags * 2 ^ 12 + scid → flags ≤ 3 → scid ≤ 1023 → (n / 2 ^ 14 ≡ 0) × (n / 2 ^ 10 % 2 ^ 2 ≡ 0) × (n % 2 ^ 10 ≡ scid)
+first_back : (n flags scid : ℕ) → n ≡ flags * 2 ^ 12 + scid → flags ≤ 3 → scid ≤ 1023
+    → (n / 2 ^ 14 ≡ 0) × (n / 2 ^ 10 % 2 ^ 2 ≡ 0) × (n % 2 ^ 10 ≡ scid)
 first_back n flags scid e h k = (omega arith, omega arith, omega arith)
 
 -- nothing is said against the header of a frame
@@ -78,7 +81,8 @@ passes_there profile carried h =
     let size : length (tc_frame_of profile carried) ≡ 5 + length (data_field profile.tc carried) + check_length profile.tc.fecf =
     omega (arith, closed_length profile.tc.fecf (header_of profile carried ++ data_field profile.tc carried)) in
     let header = header_there profile carried in
-    let first = first_back (pair_at (tc_frame_of profile carried) 0) (flags_of carried) profile.scid header.first (flags_small carried) profile.scid_fits in
+    let first = first_back (pair_at (tc_frame_of profile carried) 0) (flags_of carried) profile.scid header.first (flags_small carried)
+    profile.scid_fits in
     let second =
     told_back (pair_at (tc_frame_of profile carried) 2) profile.tc.vcid (4 + length (data_field profile.tc carried) + check_length profile.tc.fecf)
     (length (tc_frame_of profile carried)) header.second (omega arith) (omega arith) in
@@ -105,7 +109,8 @@ one_carried profile octets (set_vr v) (set_vr w) x y = ap (λ k. set_vr k) (ap (
 
 pub frames_differ : TcFramesDiffer
 frames_differ profile a b e =
-    one_carried profile (tc_frame_of profile a) a b (parts_there profile a profile.scid_fits) (parts_of_frame profile b (tc_frame_of profile a) profile.scid_fits e)
+    one_carried profile (tc_frame_of profile a) a b (parts_there profile a profile.scid_fits)
+    (parts_of_frame profile b (tc_frame_of profile a) profile.scid_fits e)
 
 -- neither type BD nor the reserved type
 no_other_kind : (profile : Profile) (octets : List ℕ) (carried : Carried) → PartsOf profile octets carried

@@ -1,11 +1,14 @@
 -- Telecommand transfer frames: octets from their parts, and the parts from the octets.
-use Rattle.std.proofs.Common.{◌≡◌, ℕ, suc, ◌+◌, ◌-◌, ◌*◌, ◌/◌, ◌%◌, ◌^◌, ◌<◌, ◌≤◌, Bool, true, false, List, [], ◌∷◌, ◌++◌, take, drop, length, get_or, Ok, Err, Some, Result, refl, sym, ap, ◌∙◌, subst, inl, inr, arith}
+use Rattle.std.proofs.Common.{◌≡◌, ℕ, suc, ◌+◌, ◌-◌, ◌*◌, ◌/◌, ◌%◌, ◌^◌, ◌<◌, ◌≤◌, Bool, true, false, List, [], ◌∷◌, ◌++◌, take, drop, length, get_or}
+use Rattle.std.proofs.Common.{Ok, Err, Some, Result, refl, sym, ap, ◌∙◌, subst, inl, inr, arith}
 use Rattle.std.specs.Prelude.{◌⊎◌, ◌≢◌}
-use Rattle.std.proofs.lemmas.List.{take_all, take_at, take-append-drop, drop_more, drop_all, length-append, get_or_append_left, length-take, length-drop}
+use Rattle.std.proofs.lemmas.List.{take_all, take_at, take-append-drop, drop_more, drop_all, length-append, get_or_append_left, length-take}
+use Rattle.std.proofs.lemmas.List.{length-drop}
 use Rattle.std.proofs.lemmas.Slice.{between_is}
 use Rattle.tc_octets.specs.Bits.{pair, pair_at}
 use Rattle.tc_octets.specs.Crc.{crc_of}
-use Rattle.tc_octets.specs.TcFrames.{Carried, ad, unlock, set_vr, carried_of, check_length, closed, data_field, flags_of, number_of, segment_header, header_of, tc_frame_of, IsCarried, IsLong, Passes, HeaderSays, HasPacket, ReadsField, Reads, flags_in}
+use Rattle.tc_octets.specs.TcFrames.{Carried, ad, unlock, set_vr, carried_of, check_length, closed, data_field, flags_of, number_of, segment_header}
+use Rattle.tc_octets.specs.TcFrames.{header_of, tc_frame_of, IsCarried, IsLong, Passes, HeaderSays, HasPacket, ReadsField, Reads, flags_in}
 use Rattle.tc_octets.specs.declared.profiles.TcChannel.{TcChannel}
 use Rattle.tc_octets.specs.declared.profiles.Profile.{Profile}
 use Rattle.tc_octets.specs.declared.tc_frames.TcFrame.{TcFrame}
@@ -56,7 +59,8 @@ closed_again true octets m small e checked =
 
 -- the check stands where the front ends
 pub checked_at : (fecf : Bool) (octets : List ℕ) (m : ℕ) → m + check_length fecf ≡ length octets
-    → (fecf ≡ true → pair_at octets (length octets - 2) ≡ crc_of (take (length octets - 2) octets)) → fecf ≡ true → pair_at octets m ≡ crc_of (take m octets)
+    → (fecf ≡ true → pair_at octets (length octets - 2) ≡ crc_of (take (length octets - 2) octets)) → fecf ≡ true
+    → pair_at octets m ≡ crc_of (take m octets)
 checked_at false octets m e checked there = absurd (cc)
 checked_at true octets m e checked there =
     let same : length octets - 2 ≡ m = omega arith in
@@ -65,7 +69,8 @@ checked_at true octets m e checked there =
 -- what is closed has its octets in front
 pub closed_front : (fecf : Bool) (octets : List ℕ) → take (length (closed fecf octets) - check_length fecf) (closed fecf octets) ≡ octets
 closed_front false octets = take_all (length octets - 0) octets (omega arith)
-closed_front true octets = take_at octets (pair (crc_of octets)) (length (octets ++ pair (crc_of octets)) - 2) (omega (arith, length-append octets (pair (crc_of octets))))
+closed_front true octets = take_at octets (pair (crc_of octets)) (length (octets ++ pair (crc_of octets)) - 2)
+    (omega (arith, length-append octets (pair (crc_of octets))))
 
 pub closed_keeps : (fecf : Bool) (octets : List ℕ) (i : ℕ) → i < length octets → get_or (closed fecf octets) i 0 ≡ get_or octets i 0
 closed_keeps false octets i h = refl
@@ -76,7 +81,8 @@ flags_small (ad ns packet) = omega arith
 flags_small unlock = omega arith
 flags_small (set_vr vr) = omega arith
 
-first_again : (n flags scid : ℕ) → n / 2 ^ 14 ≡ 0 → n / 2 ^ 10 % 2 ^ 2 ≡ 0 → n / 2 ^ 12 % 2 ^ 2 ≡ flags → n % 2 ^ 10 ≡ scid → n ≡ flags * 2 ^ 12 + scid
+first_again : (n flags scid : ℕ) → n / 2 ^ 14 ≡ 0 → n / 2 ^ 10 % 2 ^ 2 ≡ 0 → n / 2 ^ 12 % 2 ^ 2 ≡ flags → n % 2 ^ 10 ≡ scid
+    → n ≡ flags * 2 ^ 12 + scid
 first_again n flags scid version spare kind spacecraft = omega arith
 
 second_again : (n vcid last : ℕ) → n / 2 ^ 10 ≡ vcid → n % 2 ^ 10 ≡ last → n ≡ vcid * 2 ^ 10 + last
@@ -94,8 +100,10 @@ header_again profile carried octets field small passes flags number e long =
     pair_back (get_or octets 0 0) (get_or octets 1 0) (flags_of carried * 2 ^ 12 + profile.scid) (small 1)
     (first_again (pair_at octets 0) (flags_of carried) profile.scid passes.version.0 passes.version.1 flags passes.spacecraft) in
     let second =
-    pair_back (get_or octets 2 0) (get_or octets 3 0) (profile.tc.vcid * 2 ^ 10 + (4 + length (data_field profile.tc carried) + check_length profile.tc.fecf)) (small 3)
-    (second_again (pair_at octets 2) profile.tc.vcid (4 + length (data_field profile.tc carried) + check_length profile.tc.fecf) passes.channel told) in
+    pair_back (get_or octets 2 0) (get_or octets 3 0)
+    (profile.tc.vcid * 2 ^ 10 + (4 + length (data_field profile.tc carried) + check_length profile.tc.fecf)) (small 3)
+    (second_again (pair_at octets 2) profile.tc.vcid (4 + length (data_field profile.tc carried) + check_length profile.tc.fecf) passes.channel told)
+    in
     ap (λ l. l ++ get_or octets 2 0 ∷ get_or octets 3 0 ∷ get_or octets 4 0 ∷ []) first
     ∙ ap (λ l. pair (flags_of carried * 2 ^ 12 + profile.scid) ++ l ++ get_or octets 4 0 ∷ []) second
     ∙ ap
@@ -124,7 +132,8 @@ pub record PartsOf (profile : Profile) (octets : List ℕ) (carried : Carried) :
   pub number : get_or octets 4 0 ≡ number_of carried
   pub field : take (length octets - check_length profile.tc.fecf - 5) (drop 5 octets) ≡ data_field profile.tc carried
 
-flags_back : (a b flags scid : ℕ) → a ≡ (flags * 2 ^ 12 + scid) / 256 → b ≡ (flags * 2 ^ 12 + scid) % 256 → flags ≤ 3 → scid ≤ 1023 → (a * 256 + b) / 2 ^ 12 % 2 ^ 2 ≡ flags
+flags_back : (a b flags scid : ℕ) → a ≡ (flags * 2 ^ 12 + scid) / 256 → b ≡ (flags * 2 ^ 12 + scid) % 256 → flags ≤ 3 → scid ≤ 1023
+    → (a * 256 + b) / 2 ^ 12 % 2 ^ 2 ≡ flags
 flags_back a b flags scid h k small least =
     let whole : a * 256 + b ≡ flags * 2 ^ 12 + scid = omega arith in
     omega arith
@@ -152,12 +161,14 @@ carried_fits : (profile : Profile) (carried : Carried) (octets field : List ℕ)
 carried_fits profile (ad ns packet) octets field small long packet_there number e size whole =
     let most = long.most in
     let n = small 4 in
-    let parts : length field ≡ length (segment_header profile.tc.map) + length packet = ap length e ∙ length-append (segment_header profile.tc.map) packet in
+    let parts : length field ≡ length (segment_header profile.tc.map) + length packet =
+    ap length e ∙ length-append (segment_header profile.tc.map) packet in
     (omega arith, packet_there, omega arith)
 carried_fits profile unlock octets field small long packet_there number e size whole = tt
 carried_fits profile (set_vr vr) octets field small long packet_there number e size whole =
     let third : get_or octets 7 0 ≡ vr =
-    ap (λ (l : List ℕ). get_or l 7 0) whole ∙ closed_keeps profile.tc.fecf (header_of profile (set_vr vr) ++ data_field profile.tc (set_vr vr)) 7 (omega arith) in
+    ap (λ (l : List ℕ). get_or l 7 0) whole ∙ closed_keeps profile.tc.fecf (header_of profile (set_vr vr) ++ data_field profile.tc (set_vr vr)) 7
+    (omega arith) in
     let n = small 7 in
     omega arith
 

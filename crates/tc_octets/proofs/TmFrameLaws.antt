@@ -1,9 +1,11 @@
 -- What holds of telemetry frames: a reader finds nothing to say against a frame, and a frame has one content.
-use Rattle.std.proofs.Common.{◌≡◌, ℕ, ◌+◌, ◌-◌, ◌*◌, ◌/◌, ◌%◌, ◌^◌, ◌<◌, ◌≤◌, Bool, List, ◌++◌, take, drop, length, get_or, Ok, Err, Option, Some, None, refl, sym, ap, ◌∙◌, arith}
+use Rattle.std.proofs.Common.{◌≡◌, ℕ, ◌+◌, ◌-◌, ◌*◌, ◌/◌, ◌%◌, ◌^◌, ◌<◌, ◌≤◌, Bool, List, ◌++◌, take, drop, length, get_or, Ok, Err, Option, Some}
+use Rattle.std.proofs.Common.{None, refl, sym, ap, ◌∙◌, arith}
 use Rattle.std.proofs.lemmas.List.{take_at, drop_at, length-append, append-nil}
 use Rattle.tc_octets.specs.Bits.{pair_at}
 use Rattle.tc_octets.specs.TcFrames.{check_length, closed}
-use Rattle.tc_octets.specs.TmFrames.{TmParts, tm_parts, four, word_flag, word_octets, tm_header_of, tm_frame_of, IsTmFrame, IsTmLong, IsTmChecked, TmFramesComeBack, TmFramesDiffer}
+use Rattle.tc_octets.specs.TmFrames.{TmParts, tm_parts, four, word_flag, word_octets, tm_header_of, tm_frame_of, IsTmFrame, IsTmLong, IsTmChecked}
+use Rattle.tc_octets.specs.TmFrames.{TmFramesComeBack, TmFramesDiffer}
 use Rattle.tc_octets.specs.declared.profiles.Profile.{Profile}
 use Rattle.tc_octets.specs.declared.tm_frames.TmFault.TheVariants as faults
 use Rattle.tc_octets.proofs.TcFrameLemmas.{closed_front, closed_keeps}
@@ -20,7 +22,8 @@ flag_small : (word : Option ℕ) → word_flag word ≤ 1
 flag_small None = omega arith
 flag_small (Some w) = omega arith
 
-first_back : (n scid vcid flag : ℕ) → n ≡ scid * 2 ^ 4 + vcid * 2 + flag → scid ≤ 1023 → vcid < 2 ^ 3 → flag ≤ 1 → (n / 2 ^ 14 ≡ 0) × (n / 2 ^ 4 % 2 ^ 10 ≡ scid)
+first_back : (n scid vcid flag : ℕ) → n ≡ scid * 2 ^ 4 + vcid * 2 + flag → scid ≤ 1023 → vcid < 2 ^ 3 → flag ≤ 1
+    → (n / 2 ^ 14 ≡ 0) × (n / 2 ^ 4 % 2 ^ 10 ≡ scid)
 first_back n scid vcid flag e s v f = (omega arith, omega arith)
 
 -- nothing is said against a frame
@@ -36,10 +39,12 @@ passes_there profile parts h =
     let front = front_size profile parts in
     let size = h.long in
     let first =
-    two_are (get_or (tm_frame_of profile parts) 0 0) (get_or (tm_frame_of profile parts) 1 0) (profile.scid * 2 ^ 4 + parts.vcid * 2 + word_flag parts.word)
+    two_are (get_or (tm_frame_of profile parts) 0 0) (get_or (tm_frame_of profile parts) 1 0)
+    (profile.scid * 2 ^ 4 + parts.vcid * 2 + word_flag parts.word)
     (closed_keeps profile.tm.fecf (front_of profile parts) 0 (omega arith)) (closed_keeps profile.tm.fecf (front_of profile parts) 1 (omega arith)) in
     let back =
-    first_back (pair_at (tm_frame_of profile parts) 0) profile.scid parts.vcid (word_flag parts.word) first profile.scid_fits h.vcid (flag_small parts.word) in
+    first_back (pair_at (tm_frame_of profile parts) 0) profile.scid parts.vcid (word_flag parts.word) first profile.scid_fits h.vcid
+    (flag_small parts.word) in
     record {
       long = omega arith;
       checked = closed_checked profile.tm.fecf (front_of profile parts);
@@ -71,7 +76,8 @@ rest_same u v (Some w) None flag size e = absurd (omega arith)
 rest_same u v (Some w) (Some z) flag size e =
     let same : length v ≡ length u = omega arith in (
       sym (take_at u (four w) (length u) refl) ∙ ap (λ l. take (length u) l) e ∙ take_at v (four z) (length u) same,
-      ap (λ n. Some n) (four_same w z (sym (drop_at u (four w) (length u) refl) ∙ ap (λ l. drop (length u) l) e ∙ drop_at v (four z) (length u) same)),
+      ap (λ n. Some n) (four_same w z (sym (drop_at u (four w) (length u) refl) ∙ ap (λ l. drop (length u) l) e
+          ∙ drop_at v (four z) (length u) same)),
     )
 
 abbrev made : ℕ → ℕ → ℕ → ℕ → List ℕ → Option ℕ → TmParts
@@ -93,7 +99,8 @@ tm_differ profile a b h k same =
     let first =
     pair_same (profile.scid * 2 ^ 4 + a.vcid * 2 + word_flag a.word) (profile.scid * 2 ^ 4 + b.vcid * 2 + word_flag b.word)
     (ap (λ (l : List ℕ). get_or l 0 0) e) (ap (λ (l : List ℕ). get_or l 1 0) e) in
-    let channel = vcid_same profile.scid a.vcid b.vcid (word_flag a.word) (word_flag b.word) h.vcid k.vcid (flag_small a.word) (flag_small b.word) first in
+    let channel = vcid_same profile.scid a.vcid b.vcid (word_flag a.word) (word_flag b.word) h.vcid k.vcid (flag_small a.word) (flag_small b.word)
+    first in
     let size : length a.content + length (word_octets a.word) ≡ length b.content + length (word_octets b.word) = omega (arith, h.long, k.long) in
     let rest = rest_same a.content b.content a.word b.word channel.1 size (ap (λ (l : List ℕ). drop 6 l) e) in
     parts_same a b channel.0 (ap (λ (l : List ℕ). get_or l 2 0) e) (ap (λ (l : List ℕ). get_or l 3 0) e)

@@ -1,11 +1,13 @@
 -- Telemetry transfer frames: octets that pass are the frame of what stands in them.
-use Rattle.std.proofs.Common.{◌≡◌, ℕ, zero, suc, ◌+◌, ◌-◌, ◌*◌, ◌/◌, ◌%◌, ◌^◌, ◌<◌, ◌≤◌, List, [], ◌∷◌, ◌++◌, take, drop, length, get_or, Option, refl, sym, ap, ◌∙◌, subst, arith}
+use Rattle.std.proofs.Common.{◌≡◌, ℕ, zero, suc, ◌+◌, ◌-◌, ◌*◌, ◌/◌, ◌%◌, ◌^◌, ◌<◌, ◌≤◌, List, [], ◌∷◌, ◌++◌, take, drop, length, get_or, Option}
+use Rattle.std.proofs.Common.{refl, sym, ap, ◌∙◌, subst, arith}
 use Rattle.std.specs.Prelude.{IfSome, slice_range}
 use Rattle.std.proofs.Math.Seq.{take-add}
 use Rattle.std.proofs.lemmas.List.{append-nil, drop_more, length-take, length-drop, drop-drop}
 use Rattle.tc_octets.specs.Bits.{pair, pair_at}
 use Rattle.tc_octets.specs.TcFrames.{check_length, closed}
-use Rattle.tc_octets.specs.TmFrames.{TmParts, four, word_flag, word_octets, word_at, data_end, tm_header_of, tm_frame_of, IsTmFrame, IsTmLong, IsTmChecked, TmPartsIn, tm_version_in, tm_scid_in}
+use Rattle.tc_octets.specs.TmFrames.{TmParts, four, word_flag, word_octets, word_at, data_end, tm_header_of, tm_frame_of, IsTmFrame, IsTmLong}
+use Rattle.tc_octets.specs.TmFrames.{IsTmChecked, TmPartsIn, tm_version_in, tm_scid_in}
 use Rattle.tc_octets.specs.declared.profiles.Profile.{Profile}
 use Rattle.tc_octets.proofs.TcFrameLemmas.{AreOctets, check_small, checked_at, closed_again, pair_back}
 
@@ -14,7 +16,8 @@ six_more m h = omega arith
 
 -- a front of octets is its first six and the rest
 six_split : (octets : List ℕ) (m : ℕ) → 6 ≤ m → m ≤ length octets
-    → take m octets ≡ get_or octets 0 0 ∷ get_or octets 1 0 ∷ get_or octets 2 0 ∷ get_or octets 3 0 ∷ get_or octets 4 0 ∷ get_or octets 5 0 ∷ take (m - 6) (drop 6 octets)
+    → take m octets ≡ get_or octets 0 0 ∷ get_or octets 1 0 ∷ get_or octets 2 0 ∷ get_or octets 3 0 ∷ get_or octets 4 0 ∷ get_or octets 5 0
+    ∷ take (m - 6) (drop 6 octets)
 six_split [] m h k = absurd (omega arith)
 six_split (a ∷ []) m h k = absurd (omega arith)
 six_split (a ∷ b ∷ []) m h k = absurd (omega arith)
@@ -28,7 +31,8 @@ four_back : (a b c d number : ℕ) → a < 2 ^ 8 → b < 2 ^ 8 → c < 2 ^ 8 →
 four_back a b c d number ha hb hc hd e =
     let high : a * 256 + b ≡ number / 2 ^ 16 = omega arith in
     let low : c * 256 + d ≡ number % 2 ^ 16 = omega arith in
-    ap (λ l. l ++ c ∷ d ∷ []) (pair_back a b (number / 2 ^ 16) hb high) ∙ ap (λ l. pair (number / 2 ^ 16) ++ l) (pair_back c d (number % 2 ^ 16) hd low)
+    ap (λ l. l ++ c ∷ d ∷ []) (pair_back a b (number / 2 ^ 16) hb high)
+    ∙ ap (λ l. pair (number / 2 ^ 16) ++ l) (pair_back c d (number % 2 ^ 16) hd low)
 
 four_last : (octets : List ℕ) (k : ℕ) → k + 4 ≤ length octets
     → take 4 (drop k octets) ≡ get_or octets k 0 ∷ get_or octets (k + 1) 0 ∷ get_or octets (k + 2) 0 ∷ get_or octets (k + 2 + 1) 0 ∷ []
@@ -50,7 +54,8 @@ vcid_fits : (vcid n : ℕ) → vcid ≡ n / 2 % 2 ^ 3 → vcid < 2 ^ 3
 vcid_fits vcid n e = omega arith
 
 -- the data field, and the control word where there is one
-rest_split : (octets : List ℕ) (word : Option ℕ) (flag m e : ℕ) → AreOctets octets → flag ≤ 1 → word ≡ word_at octets flag e → 6 ≤ e → m ≤ length octets → m ≡ e + flag * 4
+rest_split : (octets : List ℕ) (word : Option ℕ) (flag m e : ℕ) → AreOctets octets → flag ≤ 1 → word ≡ word_at octets flag e → 6 ≤ e
+    → m ≤ length octets → m ≡ e + flag * 4
     → take (m - 6) (drop 6 octets) ≡ take (e - 6) (drop 6 octets) ++ word_octets word
 rest_split octets word zero m e small one is h k size =
     let same : m ≡ e = omega arith in
@@ -66,7 +71,8 @@ rest_split octets word (suc zero) m e small one is h k size =
     ∙ ap (λ l. take (e - 6) (drop 6 octets) ++ take 4 l) (drop-drop (e - 6) 6 octets ∙ ap (λ n. drop n octets) place)
     ∙ ap (λ l. take (e - 6) (drop 6 octets) ++ l)
     (four_last octets e inside
-    ∙ four_back (get_or octets e 0) (get_or octets (e + 1) 0) (get_or octets (e + 2) 0) (get_or octets (e + 2 + 1) 0) (pair_at octets e * 2 ^ 16 + pair_at octets (e + 2))
+    ∙ four_back (get_or octets e 0) (get_or octets (e + 1) 0) (get_or octets (e + 2) 0) (get_or octets (e + 2 + 1) 0)
+    (pair_at octets e * 2 ^ 16 + pair_at octets (e + 2))
     (small e) (small (e + 1)) (small (e + 2)) (small (e + 2 + 1)) refl)
     ∙ ap (λ w. take (e - 6) (drop 6 octets) ++ word_octets w) (sym is)
 rest_split octets word (suc (suc n)) m e small one is h k size = absurd (omega arith)
@@ -96,13 +102,16 @@ word_fits octets (suc zero) e one small =
     omega arith
 word_fits octets (suc (suc n)) e one small = absurd (omega arith)
 
-first_again : (n scid vcid flag : ℕ) → n / 2 ^ 14 ≡ 0 → n / 2 ^ 4 % 2 ^ 10 ≡ scid → vcid ≡ n / 2 % 2 ^ 3 → flag ≡ n % 2 → n ≡ scid * 2 ^ 4 + vcid * 2 + flag
+first_again : (n scid vcid flag : ℕ) → n / 2 ^ 14 ≡ 0 → n / 2 ^ 4 % 2 ^ 10 ≡ scid → vcid ≡ n / 2 % 2 ^ 3 → flag ≡ n % 2
+    → n ≡ scid * 2 ^ 4 + vcid * 2 + flag
 first_again n scid vcid flag version spacecraft channel told = omega arith
 
 -- the six octets of the header
-tm_header_again : (profile : Profile) (parts : TmParts) (octets : List ℕ) → AreOctets octets → tm_version_in octets ≡ 0 → tm_scid_in octets ≡ profile.scid
+tm_header_again : (profile : Profile) (parts : TmParts) (octets : List ℕ) → AreOctets octets → tm_version_in octets ≡ 0
+    → tm_scid_in octets ≡ profile.scid
     → TmPartsIn profile octets parts → word_flag parts.word ≡ pair_at octets 0 % 2
-    → get_or octets 0 0 ∷ get_or octets 1 0 ∷ get_or octets 2 0 ∷ get_or octets 3 0 ∷ get_or octets 4 0 ∷ get_or octets 5 0 ∷ [] ≡ tm_header_of profile parts
+    → get_or octets 0 0 ∷ get_or octets 1 0 ∷ get_or octets 2 0 ∷ get_or octets 3 0 ∷ get_or octets 4 0 ∷ get_or octets 5 0 ∷ []
+    ≡ tm_header_of profile parts
 tm_header_again profile parts octets small version scid inside flag =
     let first =
     pair_back (get_or octets 0 0) (get_or octets 1 0) (profile.scid * 2 ^ 4 + parts.vcid * 2 + word_flag parts.word) (small 1)
@@ -110,8 +119,10 @@ tm_header_again profile parts octets small version scid inside flag =
     let third = pair_back (get_or octets 4 0) (get_or octets 5 0) parts.status (small 5) (sym inside.status) in
     ap (λ l. l ++ get_or octets 2 0 ∷ get_or octets 3 0 ∷ get_or octets 4 0 ∷ get_or octets 5 0 ∷ []) first
     ∙ ap (λ l. pair (profile.scid * 2 ^ 4 + parts.vcid * 2 + word_flag parts.word) ++ get_or octets 2 0 ∷ get_or octets 3 0 ∷ l) third
-    ∙ ap (λ n. pair (profile.scid * 2 ^ 4 + parts.vcid * 2 + word_flag parts.word) ++ n ∷ get_or octets 3 0 ∷ pair parts.status) (sym inside.master_count)
-    ∙ ap (λ n. pair (profile.scid * 2 ^ 4 + parts.vcid * 2 + word_flag parts.word) ++ parts.master_count ∷ n ∷ pair parts.status) (sym inside.channel_count)
+    ∙ ap (λ n. pair (profile.scid * 2 ^ 4 + parts.vcid * 2 + word_flag parts.word) ++ n ∷ get_or octets 3 0 ∷ pair parts.status)
+    (sym inside.master_count)
+    ∙ ap (λ n. pair (profile.scid * 2 ^ 4 + parts.vcid * 2 + word_flag parts.word) ++ parts.master_count ∷ n ∷ pair parts.status)
+    (sym inside.channel_count)
 
 -- octets that pass, and of which the parts are these, are the frame of these parts
 pub tm_again : (profile : Profile) (parts : TmParts) (octets : List ℕ) → AreOctets octets → IsTmLong profile octets → IsTmChecked profile octets
@@ -125,7 +136,8 @@ tm_again profile parts octets small long checked version scid inside =
     let room : 6 ≤ data_end profile octets = omega arith in
     let whole : (length octets - check_length profile.tm.fecf) + check_length profile.tm.fecf ≡ length octets = omega arith in
     let split : length octets - check_length profile.tm.fecf ≡ data_end profile octets + pair_at octets 0 % 2 * 4 = omega arith in
-    let flagged : word_flag parts.word ≡ pair_at octets 0 % 2 = ap word_flag inside.word ∙ flag_is octets (pair_at octets 0 % 2) (data_end profile octets) one in
+    let flagged : word_flag parts.word ≡ pair_at octets 0 % 2 =
+    ap word_flag inside.word ∙ flag_is octets (pair_at octets 0 % 2) (data_end profile octets) one in
     let worded : length (word_octets parts.word) ≡ pair_at octets 0 % 2 * 4 =
     ap (λ w. length (word_octets w)) inside.word ∙ word_size octets (pair_at octets 0 % 2) (data_end profile octets) one in
     let sized : length parts.content ≡ data_end profile octets - 6 =
@@ -137,7 +149,8 @@ tm_again profile parts octets small long checked version scid inside =
         master_count = omega (arith, inside.master_count);
         channel_count = omega (arith, inside.channel_count);
         status = subst (λ (n : ℕ). n < 2 ^ 16) (sym inside.status) (pair_fits octets 4 small);
-        word = subst (λ (w : Option ℕ). IfSome w (λ (n : ℕ). n < 2 ^ 32)) (sym inside.word) (word_fits octets (pair_at octets 0 % 2) (data_end profile octets) one small);
+        word = subst (λ (w : Option ℕ). IfSome w (λ (n : ℕ). n < 2 ^ 32)) (sym inside.word)
+            (word_fits octets (pair_at octets 0 % 2) (data_end profile octets) one small);
         long = omega arith;
       },
       closed_again profile.tm.fecf octets (length octets - check_length profile.tm.fecf) small whole
@@ -145,7 +158,8 @@ tm_again profile parts octets small long checked version scid inside =
           ∙ ap (closed profile.tm.fecf)
           (six_split octets (length octets - check_length profile.tm.fecf) (omega arith) (omega arith)
           ∙ ap (λ l. get_or octets 0 0 ∷ get_or octets 1 0 ∷ get_or octets 2 0 ∷ get_or octets 3 0 ∷ get_or octets 4 0 ∷ get_or octets 5 0 ∷ l)
-          (rest_split octets parts.word (pair_at octets 0 % 2) (length octets - check_length profile.tm.fecf) (data_end profile octets) small one inside.word room (omega arith) split
+          (rest_split octets parts.word (pair_at octets 0 % 2) (length octets - check_length profile.tm.fecf) (data_end profile octets) small one
+          inside.word room (omega arith) split
           ∙ ap (λ l. l ++ word_octets parts.word) (sym inside.content))
           ∙ ap (λ l. l ++ parts.content ++ word_octets parts.word) (tm_header_again profile parts octets small version scid inside flagged)),
     )

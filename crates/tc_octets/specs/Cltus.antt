@@ -1,5 +1,6 @@
 -- CLTUs (CCSDS 231.0-B), as they are sent and as they are found.
-use Rattle.std.specs.Prelude.{◌≡◌, ℕ, zero, suc, ◌+◌, ◌*◌, ◌/◌, ◌%◌, ◌^◌, ◌-◌, ◌≤◌, ◌==◌, nat_lt, if◌then◌else◌, ◌&&◌, Bool, true, false, List, [], ◌∷◌, ◌++◌, length, take, drop, replicate, Option, Some, None}
+use Rattle.std.specs.Prelude.{◌≡◌, ℕ, zero, suc, ◌+◌, ◌/◌, ◌%◌, ◌^◌, ◌-◌, ◌≤◌, ◌==◌, nat_lt, if◌then◌else◌, ◌&&◌, Bool, false, List, []}
+use Rattle.std.specs.Prelude.{◌∷◌, ◌++◌, length, take, drop, replicate, Option, Some, None}
 use Rattle.std.specs.List.{fold}
 use Rattle.tc_octets.specs.Bits.{pair_at}
 use Rattle.tc_octets.specs.Codeblocks.{codeblock_of, sent_of}
@@ -39,8 +40,8 @@ cltu_of randomizer frame = start_sequence ++ all_codeblocks_of (filled_of random
 
 -- ---- the receiver, octet by octet
 
--- Where a receiver is: looking for a start sequence, of which the first octet may just have come; or within a CLTU, with the information of its codeblocks
--- so far and the octets of the next block.
+-- Where a receiver is: looking for a start sequence, of which the first octet may just have come; or within a CLTU, with the information of its
+-- codeblocks so far and the octets of the next block.
 pub data Place : Type 0 where
   searching : (begun : Bool) → Place
   within : (information waiting : List ℕ) → Place
@@ -59,8 +60,8 @@ pub record Found : Type 0 where
   pub place : Place
   pub ended : Option (List ℕ)
 
--- A block that reads as a codeblock goes on, unless there were 147. Any other ends the CLTU, and the next start sequence is looked for from that block's
--- first octet on.
+-- A block that reads as a codeblock goes on, unless there were 147. Any other ends the CLTU, and the next start sequence is looked for from that
+-- block's first octet on.
 abbrev pub after_block : List ℕ → List ℕ → Option (List ℕ) → Found
 after_block information block (Some codeblock) = record { place = within (information ++ take 7 codeblock) []; ended = None }
 after_block information block None = record { place = fold come (searching false) block; ended = Some information }

@@ -13,7 +13,8 @@ turned_at (place ∷ places) block = turned place (turned_at places block)
 
 -- No decoder takes the codeblock of information for another: it reads as itself.
 abbrev pub WholeIsTaken : Type 0
-WholeIsTaken = (mode : Mode) (information : List ℕ) → length information ≡ 7 → sent_of mode (codeblock_of information) ≡ Some (codeblock_of information)
+WholeIsTaken = (mode : Mode) (information : List ℕ) → length information ≡ 7
+    → sent_of mode (codeblock_of information) ≡ Some (codeblock_of information)
 
 -- Detecting, one, two or three wrong bits of the 64 are found.
 abbrev pub ThreeAreFound : Type 0

@@ -1,12 +1,13 @@
 -- Codeblocks of the BCH code (CCSDS 231.0-B): 7 octets of information, and an octet of 7 parity bits and a filler bit.
-use Rattle.std.specs.Prelude.{ℕ, zero, suc, ◌*◌, ◌/◌, ◌%◌, ◌^◌, ◌-◌, ◌==◌, if◌then◌else◌, Bool, List, [], ◌∷◌, ◌++◌, take, Option, Some, None, slice_index, slice_set, bit_xor}
+use Rattle.std.specs.Prelude.{ℕ, zero, suc, ◌*◌, ◌/◌, ◌%◌, ◌^◌, ◌==◌, if◌then◌else◌, Bool, List, [], ◌∷◌, ◌++◌, take, Option, Some, None}
+use Rattle.std.specs.Prelude.{slice_index, slice_set, bit_xor}
 use Rattle.std.specs.List.{fold}
 use Rattle.tc_octets.specs.Bits.{bits_of}
 use Rattle.tc_octets.specs.declared.codeblocks.Mode.{Mode}
 use Rattle.tc_octets.specs.declared.codeblocks.Mode.TheVariants.{Detecting, Correcting}
 
--- One bit goes into the register of 7 bits: it is shifted, and where its top bit and this one differ, the generator x^7 + x^6 + x^2 + 1 without its first
--- term is laid over it.
+-- One bit goes into the register of 7 bits: it is shifted, and where its top bit and this one differ, the generator x^7 + x^6 + x^2 + 1 without its
+-- first term is laid over it.
 unfoldable pub bch_step : ℕ → ℕ → ℕ
 bch_step register bit = if register / 2 ^ 6 == bit then register * 2 % 2 ^ 7 else bit_xor (register * 2 % 2 ^ 7) 0x45
 

@@ -3,7 +3,8 @@ use Rattle.std.specs.Prelude.{ℕ, ◌*◌, ◌/◌, ◌%◌, ◌^◌, ◌==◌,
 use Rattle.std.specs.List.{fold}
 use Rattle.tc_octets.specs.Bits.{bits_of}
 
--- One bit goes into the register of 16 bits: it is shifted, and where its top bit and this one differ, the generator without its first term is laid over it.
+-- One bit goes into the register of 16 bits: it is shifted, and where its top bit and this one differ, the generator without its first term is laid
+-- over it.
 unfoldable pub crc_step : ℕ → ℕ → ℕ
 crc_step register bit = if register / 2 ^ 15 == bit then register * 2 % 2 ^ 16 else bit_xor (register * 2 % 2 ^ 16) 0x1021
 

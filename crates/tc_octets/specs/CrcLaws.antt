@@ -35,9 +35,11 @@ IsFound errors = (octets : List ℕ) → length octets ≡ length errors → crc
 abbrev pub CrcOfTheWhole : Type 0
 CrcOfTheWhole = (octets : List ℕ) (check : ℕ) → check < 2 ^ 16 → (crc_of (octets ++ pair check) ≡ 0) ↔ (check ≡ crc_of octets)
 
--- The CRC of octets with errors laid over them is the CRC of the octets, with that of the errors laid over it, which is read from a register of zeros.
+-- The CRC of octets with errors laid over them is the CRC of the octets, with that of the errors laid over it, which is read from a register of
+-- zeros.
 abbrev pub CrcIsLinear : Type 0
-CrcIsLinear = (octets errors : List ℕ) → length octets ≡ length errors → crc_of (laid octets errors) ≡ bit_xor (crc_of octets) (crc_from 0 (bits_of errors))
+CrcIsLinear = (octets errors : List ℕ) → length octets ≡ length errors
+    → crc_of (laid octets errors) ≡ bit_xor (crc_of octets) (crc_from 0 (bits_of errors))
 
 -- The errors begin and end within 16 bits, and there is one.
 abbrev pub BurstsAreFound : Type 0

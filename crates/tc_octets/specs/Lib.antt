@@ -4,6 +4,7 @@ pub mod CrcLaws
 pub mod Codeblocks
 pub mod CodeblockLaws
 pub mod Randomizer
+pub mod Epochs
 pub mod ProfileKeys
 pub mod ProfileTexts
 pub mod ProfileParts

@@ -1,5 +1,6 @@
 -- Telemetry frames behind attached sync markers (CCSDS 131.0-B), as they are found in a stream of octets.
-use Rattle.std.specs.Prelude.{◌≡◌, ℕ, zero, suc, ◌+◌, ◌-◌, ◌<◌, ◌==◌, nat_le, nat_lt, if◌then◌else◌, ◌&&◌, ◌||◌, Bool, true, false, List, [], ◌∷◌, ◌++◌, length, take, drop, map, slice_index, ⊤}
+use Rattle.std.specs.Prelude.{◌≡◌, ℕ, zero, suc, ◌+◌, ◌-◌, ◌<◌, ◌==◌, nat_le, nat_lt, if◌then◌else◌, ◌&&◌, ◌||◌, Bool, true, false, List, [], ◌∷◌}
+use Rattle.std.specs.Prelude.{◌++◌, length, take, drop, map, slice_index, ⊤}
 use Rattle.std.specs.List.{flat_map, fold}
 use Rattle.tc_octets.specs.Bits.{pair_at}
 use Rattle.tc_octets.specs.Crc.{crc_of}
@@ -24,7 +25,8 @@ check_holds fecf octets = if fecf then pair_at octets (length octets - 2) == crc
 -- whether octets are a frame of this link, by its length, its check, its version and its spacecraft
 unfoldable pub is_tm_frame : Profile → List ℕ → Bool
 is_tm_frame profile octets =
-    (length octets == profile.tm.length) && (check_holds profile.tm.fecf octets && ((tm_version_in octets == 0) && (tm_scid_in octets == profile.scid)))
+    (length octets == profile.tm.length) && (check_holds profile.tm.fecf octets &&
+    ((tm_version_in octets == 0) && (tm_scid_in octets == profile.scid)))
 
 -- the frames of a stream, and the octets at its end that wait for more
 pub record Heard : Type 0 where
@@ -41,8 +43,8 @@ first_heard frame rest = record { frames = frame ∷ rest.frames; waits = rest.w
 abbrev pub behind : Profile → List ℕ → List ℕ
 behind profile octets = take profile.tm.length (drop 4 octets)
 
--- What is heard from a place on. Where a marker begins, all waits until a whole frame may stand behind it. If it is one, it is given out, and the search goes
--- on after it; else the search goes on at the next octet.
+-- What is heard from a place on. Where a marker begins, all waits until a whole frame may stand behind it. If it is one, it is given out, and the
+-- search goes on after it; else the search goes on at the next octet.
 abbrev pub from_place : Profile → List ℕ → Heard → Heard → Heard
 from_place profile octets next after =
     if may_begin octets
@@ -99,7 +101,8 @@ MarkedPiecesDoNotMatter = (profile : Profile) (first rest : List ℕ) → heard 
 
 -- A receiver that takes a stream octet by octet hears what is in it.
 abbrev pub OctetsAreHeard : Type 0
-OctetsAreHeard = (profile : Profile) (stream : List ℕ) → fold (λ before octet. joined profile before (octet ∷ [])) (waiting []) stream ≡ heard profile 0 stream
+OctetsAreHeard = (profile : Profile) (stream : List ℕ)
+    → fold (λ before octet. joined profile before (octet ∷ [])) (waiting []) stream ≡ heard profile 0 stream
 
 abbrev pub AreTmFrames : Profile → List TmParts → Type 0
 AreTmFrames profile [] = ⊤

@@ -1,6 +1,7 @@
 -- The sixteen keys of a profile's text: their names, their defaults and their values (all of them this project's own).
-use Rattle.std.specs.Prelude.{◌≡◌, ◌⊎◌, ℕ, ℤ, pos, negsuc, ◌%◌, ◌≤◌, ◌≤ℤ◌, Bool, true, false, if◌then◌else◌, List, [], ◌∷◌, Option, Some, None, IfSome, codes}
+use Rattle.std.specs.Prelude.{◌≡◌, ◌⊎◌, ℕ, ℤ, ◌%◌, ◌≤◌, Bool, true, false, if◌then◌else◌, List, [], ◌∷◌, Option, Some, None, IfSome, codes}
 use Rattle.std.specs.Fmt.{decimal, signed_decimal}
+use Rattle.tc_octets.specs.Epochs.{IsEpoch}
 use Rattle.tc_octets.specs.declared.profiles.Map.{Map}
 use Rattle.tc_octets.specs.declared.profiles.Profile.{Profile}
 use Rattle.tc_octets.specs.declared.keys.Key.{Key}
@@ -65,10 +66,7 @@ IsNumber least most value = (n : ℕ) × (least ≤ n) × (n ≤ most) × (value
 abbrev pub IsWindow : List ℕ → Type 0
 IsWindow value = (n : ℕ) × (2 ≤ n) × (n ≤ 254) × (n % 2 ≡ 0) × (value ≡ decimal n)
 
--- Unix seconds from 1 January 1958 to 31 December 2099, with a minus in front of a negative number
-abbrev pub IsEpoch : ℤ → Type 0
-IsEpoch seconds = (negsuc 378691199 ≤ℤ seconds) × (seconds ≤ℤ pos 4102444799)
-
+-- the Unix seconds of an epoch, with a minus in front of a negative number
 abbrev pub IsSeconds : List ℕ → Type 0
 IsSeconds value = (seconds : ℤ) × IsEpoch seconds × (value ≡ signed_decimal seconds)
 

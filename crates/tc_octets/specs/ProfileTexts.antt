@@ -1,5 +1,6 @@
 -- The text of a profile: what its lines say, what a reader answers, and what is printed (this project's own).
-use Rattle.std.specs.Prelude.{◌≡◌, ◌≢◌, ℕ, ◌+◌, ◌-◌, ◌<◌, ◌≤◌, ◌==◌, nat_le, nat_eq, ◌&&◌, Bool, true, if◌then◌else◌, List, [], ◌∷◌, ◌++◌, length, take, map, reverse, Option, Some, None, Result, Ok, Err, IsNone, IsSome, codes, ⊤}
+use Rattle.std.specs.Prelude.{◌≡◌, ◌≢◌, ℕ, ◌-◌, ◌<◌, ◌≤◌, ◌==◌, nat_le, nat_eq, ◌&&◌, Bool, true, if◌then◌else◌, List, [], ◌∷◌, ◌++◌, length}
+use Rattle.std.specs.Prelude.{take, map, reverse, Option, Some, None, Result, Ok, Err, IsNone, IsSome, codes, ⊤}
 use Rattle.std.specs.List.{slice_index_or, list_all, list_any, before_first, after_first, flat_map}
 use Rattle.std.specs.Fmt.{decimal}
 use Rattle.std.specs.Option.{unwrap_or}
@@ -13,7 +14,7 @@ use Rattle.tc_octets.specs.declared.statements.Statement.TheVariants as forms
 use Rattle.tc_octets.specs.declared.profile_texts.ProfileWord.{ProfileWord}
 use Rattle.tc_octets.specs.declared.profile_texts.ProfileWord.TheVariants as words
 use Rattle.tc_octets.specs.declared.profile_texts.ProfileFault.{ProfileFault}
-use Rattle.tc_octets.specs.ProfileKeys.{all_keys, name_of, default_of, spelled, IsValue, IsEpoch}
+use Rattle.tc_octets.specs.ProfileKeys.{all_keys, name_of, default_of, spelled, IsValue}
 
 -- ---- what a line says
 
@@ -48,7 +49,8 @@ abbrev pub statement_in : List ℕ → Said
 statement_in [] = blank
 statement_in (first ∷ rest) =
     if first == 35 then blank
-    else if list_any is_equals (first ∷ rest) then setting (trimmed (before_first is_equals (first ∷ rest))) (trimmed (after_first is_equals (first ∷ rest)))
+    else if list_any is_equals (first ∷ rest) then setting (trimmed (before_first is_equals (first ∷ rest)))
+    (trimmed (after_first is_equals (first ∷ rest)))
     else bad
 
 abbrev pub statement_of : List ℕ → Said
@@ -121,11 +123,10 @@ Refuses text line words.TooLong = (line ≡ 0) × (4096 < length text)
 Refuses text line words.Clash = (line ≡ 0) × IsReadable text × Clashes (statements text)
 Refuses text line word = (length text ≤ 4096) × IsFirstFault (statements text) line word
 
--- What each profile of a text keeps, beside the ranges of its types: the epoch's range, and a check of frames if the decoder corrects.
+-- What each profile of a text keeps, beside the ranges of its types: a check of frames if the decoder corrects.
 pub record IsProfile (profile : Profile) : Type 0 where
   pub idle : profile.tc.idle ≤ 255
   pub source : profile.source ≤ 65535
-  pub epoch : IsEpoch profile.epoch
   pub checked : profile.tc.correct ≡ true → profile.tc.fecf ≡ true
 
 -- What a reader answers: the profile with the value of each key, or why the text is refused.
@@ -163,7 +164,8 @@ OneAnswer = (text : List ℕ) (a b : Result Profile ProfileFault) → ProfileRea
 
 -- what a reader answers to the text that is printed of a profile is that profile
 abbrev pub ProfilesComeBack : Type 0
-ProfilesComeBack = (profile : Profile) (read : Result Profile ProfileFault) → IsProfile profile → ProfileReads (profile_text profile) read → read ≡ Ok profile
+ProfilesComeBack = (profile : Profile) (read : Result Profile ProfileFault) → IsProfile profile → ProfileReads (profile_text profile) read
+    → read ≡ Ok profile
 
 -- different profiles have different texts
 abbrev pub ProfileTextsDiffer : Type 0

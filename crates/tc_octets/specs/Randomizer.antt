@@ -1,7 +1,8 @@
 -- The randomizer of telecommand frames (CCSDS 231.0-B): x^8 + x^6 + x^4 + x^3 + x^2 + x + 1, preset ones.
 use Rattle.std.specs.Prelude.{ℕ, zero, suc, ◌+◌, ◌*◌, ◌/◌, ◌%◌, List, [], ◌∷◌, bit_xor}
 
--- Eight bits of the sequence, s(n) the highest of them and s(n + 7) the lowest. The next is s(n + 6) + s(n + 4) + s(n + 3) + s(n + 2) + s(n + 1) + s(n).
+-- Eight bits of the sequence, s(n) the highest of them and s(n + 7) the lowest. The next is s(n + 6) + s(n + 4) + s(n + 3) + s(n + 2) + s(n + 1) +
+-- s(n).
 unfoldable pub window_step : ℕ → ℕ
 window_step window =
     window % 128 * 2 + (window / 128 % 2 + window / 64 % 2 + window / 32 % 2 + window / 16 % 2 + window / 8 % 2 + window / 2 % 2) % 2

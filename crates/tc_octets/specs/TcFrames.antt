@@ -1,5 +1,6 @@
 -- Telecommand transfer frames (CCSDS 232.0-B, 4.1).
-use Rattle.std.specs.Prelude.{◌≡◌, ◌≢◌, ◌⊎◌, ℕ, ◌+◌, ◌*◌, ◌/◌, ◌%◌, ◌^◌, ◌-◌, ◌<◌, ◌≤◌, if◌then◌else◌, Bool, true, List, [], ◌∷◌, ◌++◌, length, take, Option, Some, None, Result, Ok, Err, IsOkAnd, ⊤}
+use Rattle.std.specs.Prelude.{◌≡◌, ◌≢◌, ◌⊎◌, ℕ, ◌+◌, ◌*◌, ◌/◌, ◌%◌, ◌^◌, ◌-◌, ◌<◌, ◌≤◌, if◌then◌else◌, Bool, true, List, [], ◌∷◌, ◌++◌, length, take}
+use Rattle.std.specs.Prelude.{Option, Some, None, Result, Ok, Err, IsOkAnd, ⊤}
 use Rattle.tc_octets.specs.Bits.{pair, pair_at}
 use Rattle.tc_octets.specs.Crc.{crc_of}
 use Rattle.tc_octets.specs.declared.profiles.Map.{Map}
@@ -65,7 +66,8 @@ tc_frame_of profile carried = closed profile.tc.fecf (header_of profile carried 
 
 -- What a frame of this link may carry: a packet of at least one octet, such that the frame has at most 1,024.
 abbrev pub IsCarried : TcChannel → Carried → Type 0
-IsCarried channel (ad ns packet) = (ns < 2 ^ 8) × (1 ≤ length packet) × (5 + length (segment_header channel.map) + length packet + check_length channel.fecf ≤ 1024)
+IsCarried channel (ad ns packet) = (ns < 2 ^ 8) × (1 ≤ length packet)
+    × (5 + length (segment_header channel.map) + length packet + check_length channel.fecf ≤ 1024)
 IsCarried channel unlock = ⊤
 IsCarried channel (set_vr vr) = vr < 2 ^ 8
 
@@ -113,7 +115,8 @@ abbrev pub HeaderSays : Profile → List ℕ → Option TcFault → Type 0
 HeaderSays profile octets None = Passes profile octets
 HeaderSays profile octets (Some faults.Length) = ¬ IsLong profile octets
 HeaderSays profile octets (Some faults.Check) = IsLong profile octets × ¬ IsChecked profile octets
-HeaderSays profile octets (Some faults.Version) = IsLong profile octets × IsChecked profile octets × ¬ ((version_in octets ≡ 0) × (spare_in octets ≡ 0))
+HeaderSays profile octets (Some faults.Version) = IsLong profile octets × IsChecked profile octets
+    × ¬ ((version_in octets ≡ 0) × (spare_in octets ≡ 0))
 HeaderSays profile octets (Some faults.Spacecraft) =
     IsLong profile octets × IsChecked profile octets × (version_in octets ≡ 0) × (spare_in octets ≡ 0) × (scid_in octets ≢ profile.scid)
 HeaderSays profile octets (Some faults.Channel) =
@@ -131,7 +134,8 @@ HasPacket (set_vr vr) = ⊤
 -- What the data field of a frame with these flags and this number is read as: what it carries, or nothing where no frame carries it.
 abbrev pub ReadsField : TcChannel → ℕ → ℕ → List ℕ → Result TcFrame TcFault → Type 0
 ReadsField channel flags ns field (Ok frame) =
-    (flags_of (carried_of frame) ≡ flags) × (number_of (carried_of frame) ≡ ns) × (field ≡ data_field channel (carried_of frame)) × HasPacket (carried_of frame)
+    (flags_of (carried_of frame) ≡ flags) × (number_of (carried_of frame) ≡ ns) × (field ≡ data_field channel (carried_of frame))
+    × HasPacket (carried_of frame)
 ReadsField channel flags ns field (Err faults.Content) =
     (carried : Carried) → flags_of carried ≡ flags → number_of carried ≡ ns → HasPacket carried → ¬ (field ≡ data_field channel carried)
 ReadsField channel flags ns field (Err fault) = ⊥

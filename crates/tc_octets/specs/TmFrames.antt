@@ -1,5 +1,6 @@
 -- Telemetry transfer frames (CCSDS 132.0-B, 4.1), and the control word in them.
-use Rattle.std.specs.Prelude.{◌≡◌, ◌≢◌, ℕ, ◌+◌, ◌*◌, ◌/◌, ◌%◌, ◌^◌, ◌-◌, ◌<◌, ◌==◌, if◌then◌else◌, ◌&&◌, true, List, [], ◌∷◌, ◌++◌, length, take, slice_index, slice_range, Option, Some, None, IfSome, Result, Ok, Err, IsOkAnd}
+use Rattle.std.specs.Prelude.{◌≡◌, ◌≢◌, ℕ, ◌+◌, ◌*◌, ◌/◌, ◌%◌, ◌^◌, ◌-◌, ◌<◌, ◌==◌, if◌then◌else◌, ◌&&◌, true, List, [], ◌∷◌, ◌++◌, length, take}
+use Rattle.std.specs.Prelude.{slice_index, slice_range, Option, Some, None, IfSome, Result, Ok, Err, IsOkAnd}
 use Rattle.tc_octets.specs.Bits.{pair, pair_at}
 use Rattle.tc_octets.specs.Crc.{crc_of}
 use Rattle.tc_octets.specs.TcFrames.{check_length, closed}
@@ -118,4 +119,5 @@ TmFramesComeBack = (profile : Profile) (parts : TmParts) (read : Result TmFrame 
 
 -- different frames have different octets
 abbrev pub TmFramesDiffer : Type 0
-TmFramesDiffer = (profile : Profile) (a b : TmParts) → IsTmFrame profile a → IsTmFrame profile b → tm_frame_of profile a ≡ tm_frame_of profile b → a ≡ b
+TmFramesDiffer = (profile : Profile) (a b : TmParts) → IsTmFrame profile a → IsTmFrame profile b → tm_frame_of profile a ≡ tm_frame_of profile b
+    → a ≡ b

@@ -11,8 +11,8 @@ use std::marker::Model;
 /// The most octets of information of a CLTU: 147 codeblocks of 7.
 pub const MOST_INFORMATION: usize = 1029;
 
-/// The information of the codeblocks of a CLTU (CCSDS 231.0-B): a frame, maybe, and its fill. It has at most 1,029 octets, and takes no memory. A contract
-/// sees the octets.
+/// The information of the codeblocks of a CLTU (CCSDS 231.0-B): a frame, maybe, and its fill. It has at most 1,029 octets, and takes no memory. A
+/// contract sees the octets.
 #[derive(Drop)]
 pub struct Candidate {
     octets: [u8; 1029],
@@ -75,8 +75,8 @@ impl Candidate {
         }
     }
 
-    /// The frame at the front of the octets: as many as its frame length field says (CCSDS 232.0-B, 4.1.2.7), with 0 to 6 octets of fill after it. `None`
-    /// where there is none.
+    /// The frame at the front of the octets: as many as its frame length field says (CCSDS 232.0-B, 4.1.2.7), with 0 to 6 octets of fill after it.
+    /// `None` where there is none.
     pub fn frame(&self) -> Option<&[u8]>
         ensures { MatchOption result (¬ HasFrame self.now) (λ frame. IsFrameIn self.now frame.now) }
     {

@@ -14,7 +14,8 @@ const FIRST: u8 = 0xeb;
 /// Its second octet.
 const SECOND: u8 = 0x90;
 
-/// Where a receiver is: it looks for a start sequence, of which the first octet may just have come; or it is within a CLTU. A contract sees it as a `Place`.
+/// Where a receiver is: it looks for a start sequence, of which the first octet may just have come; or it is within a CLTU. A contract sees it as a
+/// `Place`.
 #[derive(Drop)]
 struct Spot {
     inside: bool,
@@ -125,8 +126,8 @@ fn looked_through(block: &[u8; 8]) -> Spot
     spot
 }
 
-/// The receiver of CLTUs (CCSDS 231.0-B). It is given the octets that come, one after the other, in whatever pieces. It keeps the information of one CLTU
-/// and up to 7 octets more, and takes no memory. A contract sees its mode and its place.
+/// The receiver of CLTUs (CCSDS 231.0-B). It is given the octets that come, one after the other, in whatever pieces. It keeps the information of one
+/// CLTU and up to 7 octets more, and takes no memory. A contract sees its mode and its place.
 #[derive(Drop)]
 pub struct CltuReader {
     mode: Mode,

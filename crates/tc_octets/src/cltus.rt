@@ -1,5 +1,6 @@
 //! CLTUs as they are sent.
 ghost use Rattle.std.specs.Prelude.{◌≡◌, ◌++◌, ◌≤◌, ◌*◌, ◌/◌, ◌%◌, IfOk, OnOk, length};
+ghost use Rattle.tc_octets.specs.CltuRuns.{Brings};
 ghost use Rattle.tc_octets.specs.Cltus.{cltu_of, codeblocks_of, filled_of, filled_to};
 
 use crate::codeblocks::{INFORMATION, error_control};
@@ -57,14 +58,16 @@ fn put_codeblocks<A: Allocator + Copy>(
     Ok(())
 }
 
-/// The CLTU of a frame (CCSDS 231.0-B): the start sequence, the codeblocks of the frame and its fill, and the tail sequence. Of a frame of up to 1,024
-/// octets it has up to 1,186. Fails where memory is refused.
+/// The CLTU of a frame (CCSDS 231.0-B): the start sequence, the codeblocks of the frame and its fill, and the tail sequence. Of a frame of up to
+/// 1,024 octets it has up to 1,186. Fails where memory is refused.
+#[tactic(auto, using(crate::proofs::BringLemmas::cltu_brings))]
 pub fn cltu<A: Allocator + Copy>(
     alloc: A,
     randomizer: bool,
     frame: &[u8],
 ) -> Result<Vec<u8, A>, AllocError>
-    ensures { IfOk result (λ octets. octets.items ≡ cltu_of randomizer frame.now) }
+    ensures value { IfOk result (λ octets. octets.items ≡ cltu_of randomizer frame.now) }
+    ensures law { IfOk result (λ octets. length frame.now ≤ 1024 → Brings octets.items (filled_of randomizer frame.now)) }
 {
     let information = filled(alloc, randomizer, frame)?;
     let mut octets = Vec::from_slice(alloc, &START)?;

@@ -50,8 +50,8 @@ fn with_octet(register: u8, octet: u8) -> u8
     after
 }
 
-/// The last octet of the codeblock of 7 octets (CCSDS 231.0-B): the 7 parity bits, which are the remainder by x^7 + x^6 + x^2 + 1 with each bit turned,
-/// and a filler bit 0.
+/// The last octet of the codeblock of 7 octets (CCSDS 231.0-B): the 7 parity bits, which are the remainder by x^7 + x^6 + x^2 + 1 with each bit
+/// turned, and a filler bit 0.
 #[tactic(auto, using(crate::proofs::BitLemmas::octet_folded, crate::proofs::BitLemmas::xor_of_7))]
 pub fn error_control(information: &[u8]) -> u8
     ensures { result ≡ error_control_of information.now }
@@ -82,7 +82,7 @@ fn with_turned(block: &[u8; 8], place: usize) -> [u8; 8]
 }
 
 /// The codeblock that differs in one bit.
-#[tactic(auto, using(crate::proofs::CodeblockLemmas::turned_found, crate::proofs::CodeblockLemmas::turned_passed, crate::proofs::CodeblockLemmas::turned_ended))]
+#[tactic(auto, using(crate::proofs::CodeblockLemmas::turns, crate::proofs::CodeblockLemmas::passes, crate::proofs::CodeblockLemmas::ends))]
 fn mended(block: &[u8; 8]) -> Option<[u8; 8]>
     ensures { result ≡ with_one_turned 64 block.now }
 {

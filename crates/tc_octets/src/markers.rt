@@ -32,7 +32,7 @@ fn may_begin(octets: &[u8]) -> bool
 }
 
 /// The first place from this one on where a marker may begin; the end where there is none.
-#[tactic(auto, using(crate::proofs::MarkerLemmas::begins_here, crate::proofs::MarkerLemmas::begins_later, crate::proofs::MarkerLemmas::begins_nowhere))]
+#[tactic(auto, using(crate::proofs::MarkerLemmas::begins_here, crate::proofs::MarkerLemmas::begins_later, crate::proofs::MarkerLemmas::begins_never))]
 fn first_place(octets: &[u8], start: usize) -> usize
     requires { start ≤ length octets.now }
     ensures place { drop result octets.now ≡ from_marker (drop start octets.now) }
@@ -159,8 +159,9 @@ impl Window {
     }
 }
 
-/// The receiver of a stream of telemetry frames, each behind an attached sync marker (CCSDS 131.0-B). It is given the octets that come, one after the other,
-/// in whatever pieces. It keeps a marker and a frame at most, and takes no memory. A contract sees its profile and what the last octet brought.
+/// The receiver of a stream of telemetry frames, each behind an attached sync marker (CCSDS 131.0-B). It is given the octets that come, one after the
+/// other, in whatever pieces. It keeps a marker and a frame at most, and takes no memory. A contract sees its profile and what the last octet
+/// brought.
 #[derive(Drop)]
 pub struct MarkerReader {
     profile: Profile,
@@ -176,7 +177,8 @@ impl Model for MarkerReader {
 
     ghost view = { λ reader. record { profile = reader.profile; last = heard_in reader.whole reader.window } };
 
-    ghost invariant = { λ reader. IsWaiting reader.profile (heard_in reader.whole reader.window).waits × ((if reader.whole then 4 else 0) ≤ length reader.window) };
+    ghost invariant = { λ reader. IsWaiting reader.profile (heard_in reader.whole reader.window).waits
+        × ((if reader.whole then 4 else 0) ≤ length reader.window) };
 }
 
 impl MarkerReader {

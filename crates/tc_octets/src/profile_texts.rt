@@ -6,8 +6,10 @@ ghost use Rattle.std.specs.Option.{option_copied};
 ghost use Rattle.std.specs.Fmt.{decimal, signed_decimal};
 ghost use Rattle.tc_octets.specs.declared.keys.Key.{Key as SomeKey};
 ghost use Rattle.tc_octets.specs.declared.keys.Key.TheVariants as keys;
-ghost use Rattle.tc_octets.specs.ProfileKeys.{IsEpoch, IsNumber, IsYesOrNo, ReadsWord, fine_word, map_word, name_of, spelled, yes_no};
-ghost use Rattle.tc_octets.specs.ProfileTexts.{AreSound, IsFirstFault, ProfileReads, Says, said_of, setting, statement_of, statements, value_given, value_in, value_of};
+ghost use Rattle.tc_octets.specs.Epochs.{IsEpoch};
+ghost use Rattle.tc_octets.specs.ProfileKeys.{IsNumber, IsYesOrNo, ReadsWord, fine_word, map_word, name_of, spelled, yes_no};
+ghost use Rattle.tc_octets.specs.ProfileTexts.{AreSound, IsFirstFault, ProfileReads, Says, said_of, setting, statement_of, statements, value_given};
+ghost use Rattle.tc_octets.specs.ProfileTexts.{value_in, value_of};
 ghost use Rattle.tc_octets.specs.ProfileParts.{AreValues, HasTc, HasTm, IsNumberIn, value_at};
 
 use crate::keys::{KEYS, Key};
@@ -68,7 +70,7 @@ fn value_given<'a>(statement: &Statement<'a>, key: Key) -> Option<&'a [u8]>
 }
 
 /// Returns the value that the first lines of a text give a key.
-#[tactic(auto, using(crate::proofs::ProfileTextLemmas::value_step, crate::proofs::ProfileTextLemmas::value_found, crate::proofs::ProfileTextLemmas::value_end))]
+#[tactic(auto, using(crate::proofs::ProfileTextLemmas::stepped, crate::proofs::ProfileTextLemmas::found, crate::proofs::ProfileTextLemmas::ended))]
 fn value_in(text: &[u8], key: Key, count: usize) -> Option<&[u8]>
     ensures { option_copied result ≡ value_in key (take count (statements text.now)) }
 {
@@ -129,7 +131,8 @@ fn fault_of(text: &[u8], count: usize, line: &[u8]) -> Option<ProfileWord>
 /// Returns the first fault in the lines of a text.
 fn first_fault(text: &[u8]) -> Option<ProfileFault>
     requires { length text.now ≤ 4096 }
-    ensures { MatchOption result (AreSound (length (statements text.now)) (statements text.now)) (λ fault. IsFirstFault (statements text.now) fault.line fault.word) }
+    ensures { MatchOption result (AreSound (length (statements text.now)) (statements text.now))
+        (λ fault. IsFirstFault (statements text.now) fault.line fault.word) }
 {
     let mut lines = Lines::new(text);
     let mut count = 0;
@@ -233,8 +236,7 @@ fn is_fine(text: &[u8]) -> bool
 /// Returns the profile of a text whose lines have no fault.
 fn profile_of(text: &[u8]) -> Profile
     requires { AreValues text.now }
-    ensures values { (key : SomeKey) → spelled result key ≡ value_at text.now key }
-    ensures range { IsEpoch result.epoch }
+    ensures { (key : SomeKey) → spelled result key ≡ value_at text.now key }
 {
     let scid = number_of(text, Key::Scid, 0, 1023);
     let apid = number_of(text, Key::Apid, 1, 2046);

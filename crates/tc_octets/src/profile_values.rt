@@ -1,7 +1,8 @@
 //! The values of a profile's keys.
 ghost use Rattle.std.specs.Prelude.{◌≡◌, ◌≢◌, ◌<◌, ◌^◌, ◌↔◌, IsTrue, ◌∷◌, length, slice_index};
 ghost use Rattle.std.specs.Fmt.{decimal, signed_decimal};
-ghost use Rattle.tc_octets.specs.ProfileKeys.{IsEpoch, IsNumber, IsValue, IsWindow, IsYesOrNo, ReadsWord};
+ghost use Rattle.tc_octets.specs.Epochs.{IsEpoch};
+ghost use Rattle.tc_octets.specs.ProfileKeys.{IsNumber, IsValue, IsWindow, IsYesOrNo, ReadsWord};
 
 use crate::keys::Key;
 use std::str;

@@ -1,5 +1,6 @@
 //! How a link is set.
-ghost use Rattle.std.specs.Prelude.{◌≡◌, ◌≤◌, ◌<◌, ◌^◌, ◌%◌};
+ghost use Rattle.std.specs.Prelude.{◌≡◌, ◌≤◌, ◌%◌};
+ghost use Rattle.tc_octets.specs.Epochs.{IsEpoch};
 
 /// A multiplexer access point (MAP) of a telecommand channel.
 #[derive(Clone, Copy, Debug, PartialEq, Eq)]
@@ -68,11 +69,21 @@ pub struct Profile {
     ghost scid_fits: { scid ≤ 1023 },
     ghost apid_fits: { apid ≤ 2046 },
     ghost apid_stands: { 1 ≤ apid },
+    ghost epoch_fits: { IsEpoch epoch },
 }
 
 impl Profile {
-    /// The profile of the defaults.
-    pub fn standard() -> Profile {
+    ghost use Rattle.std.specs.Prelude.{◌≡◌, [], Ok};
+    ghost use Rattle.tc_octets.specs.ProfileKeys.{default_of, spelled};
+    ghost use Rattle.tc_octets.specs.ProfileTexts.{ProfileReads};
+    ghost use Rattle.tc_octets.specs.declared.keys.Key.{Key as SomeKey};
+
+    /// The profile of the defaults, which is the one of the empty text.
+    #[tactic(auto, using(crate::proofs::StandardLemmas::standard_spelled, crate::proofs::StandardLemmas::standard_read))]
+    pub fn standard() -> Profile
+        ensures defaults { (key : SomeKey) → spelled result key ≡ default_of key }
+        ensures empty { ProfileReads [] (Ok result) }
+    {
         Profile {
             scid: 1,
             tc: TcChannel {

@@ -17,7 +17,7 @@ fn stepped(window: u8) -> u8
 }
 
 /// The next octet of the sequence.
-#[tactic(auto, using(crate::proofs::RandomizerLemmas::window_more, crate::proofs::RandomizerLemmas::no_windows), unfolding(crate::specs::Randomizer::next_octet))]
+#[tactic(auto, using(crate::proofs::RandomizerLemmas::more, crate::proofs::RandomizerLemmas::none), unfolding(crate::specs::Randomizer::next_octet))]
 fn next(window: u8) -> u8
     ensures { result ≡ next_octet window }
 {
@@ -28,7 +28,8 @@ fn next(window: u8) -> u8
     after
 }
 
-/// Lays the randomizer's sequence over the octets of a frame, from its first octet on (CCSDS 231.0-B): x^8 + x^6 + x^4 + x^3 + x^2 + x + 1, preset ones.
+/// Lays the randomizer's sequence over the octets of a frame, from its first octet on (CCSDS 231.0-B): x^8 + x^6 + x^4 + x^3 + x^2 + x + 1, preset
+/// ones.
 /// Doing it twice undoes it.
 #[tactic(auto, using(crate::proofs::RandomizerLemmas::octet_randomized, crate::proofs::RandomizerLemmas::all_randomized))]
 pub fn randomize(octets: &mut [u8])

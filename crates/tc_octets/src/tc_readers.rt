@@ -54,7 +54,8 @@ fn header_fault(profile: &Profile, octets: &[u8]) -> Option<TcFault>
 
 /// The packet in the data field of a type-AD frame: what stands after the segment header, where there is one.
 fn packet_in<'a>(channel: &TcChannel, field: &'a [u8]) -> Option<&'a [u8]>
-    ensures { MatchOption result ((packet : List ℕ) → ¬ (field.now ≡ segment_header channel.now.map ++ packet)) (λ packet. field.now ≡ segment_header channel.now.map ++ packet.now) }
+    ensures { MatchOption result ((packet : List ℕ) → ¬ (field.now ≡ segment_header channel.now.map ++ packet))
+        (λ packet. field.now ≡ segment_header channel.now.map ++ packet.now) }
 {
     match channel.map {
         None => Some(field),

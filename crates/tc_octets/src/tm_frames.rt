@@ -1,6 +1,7 @@
 //! Telemetry transfer frames.
 ghost use Rattle.std.specs.Prelude.{◌≡◌, ◌++◌, ◌+◌, ◌*◌, ◌^◌, ◌<◌, ◌≤◌, ◌↔◌, IfOk, OnOk, IsTrue, length};
-ghost use Rattle.tc_octets.specs.TmFrames.{IsTmChecked, IsTmFrame, TmPartsIn, TmReads, TmSays, four, our_word, tm_frame_of, tm_header_of, tm_parts, word_at, word_flag, word_octets};
+ghost use Rattle.tc_octets.specs.TmFrames.{IsTmChecked, IsTmFrame, TmPartsIn, TmReads, TmSays, four, our_word, tm_frame_of, tm_header_of, tm_parts};
+ghost use Rattle.tc_octets.specs.TmFrames.{word_at, word_flag, word_octets};
 
 use crate::crcs::crc;
 use crate::profiles::Profile;
@@ -179,8 +180,8 @@ pub fn read_tm_frame<'a>(profile: &Profile, octets: &'a [u8]) -> Result<TmFrame<
     }
 }
 
-/// The control word of our telecommand channel that a frame has (CCSDS 232.0-B, 4.2), of whatever virtual channel the frame is. `None` where the frame has
-/// none, or the word is of another type or another virtual channel: such a word is passed over.
+/// The control word of our telecommand channel that a frame has (CCSDS 232.0-B, 4.2), of whatever virtual channel the frame is. `None` where the
+/// frame has none, or the word is of another type or another virtual channel: such a word is passed over.
 pub fn word_of(profile: &Profile, frame: &TmFrame) -> Option<u32>
     ensures { result ≡ our_word profile.now frame.now.word }
 {

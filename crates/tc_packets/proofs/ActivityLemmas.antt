@@ -1,5 +1,6 @@
 -- Activities that octets begin with.
-use Rattle.std.proofs.Common.{◌≡◌, ℕ, ◌+◌, ◌<◌, ◌≤◌, List, [], ◌∷◌, ◌++◌, take, drop, set, replicate, length, Some, None, refl, sym, ap, ◌∙◌, subst, arith}
+use Rattle.std.proofs.Common.{◌≡◌, ℕ, ◌+◌, ◌<◌, ◌≤◌, List, [], ◌∷◌, ◌++◌, take, drop, set, replicate, length, Some, None, refl, sym, ap, ◌∙◌, subst}
+use Rattle.std.proofs.Common.{arith}
 use Rattle.std.specs.Prelude.{◌≢◌, ◌↔◌, Option, IsSome, IfSome}
 use Rattle.std.specs.List.{AllByRecursion}
 use Rattle.std.proofs.lemmas.List.{length-set, length-take, length-drop}
@@ -14,7 +15,9 @@ use Rattle.tc_packets.specs.Identities.{Flies}
 use Rattle.tc_packets.specs.Times.{IsTime, time_length}
 use Rattle.tc_packets.specs.Flights.{FitsActivity, FitsPlain}
 use Rattle.tc_packets.specs.Telecommands.{activity_packet_of, packet_of, plain_data_of}
-use Rattle.tc_packets.specs.TelecommandReaders.{BeginsWith, BeginsWithNone, BeginsWithPacket, FoundActivity, HasActivities, HeadersSay, Passes, ReadsActivities, ReadsActivity, ReadsPlain, ReadsRequest, activity_length, data_in, service_in, subtype_in}
+use Rattle.tc_packets.specs.TelecommandReaders.{BeginsWith, BeginsWithNone, BeginsWithPacket, FoundActivity, HasActivities, HeadersSay, Passes}
+use Rattle.tc_packets.specs.TelecommandReaders.{ReadsActivities, ReadsActivity, ReadsPlain, ReadsRequest, activity_length, data_in, service_in}
+use Rattle.tc_packets.specs.TelecommandReaders.{subtype_in}
 use Rattle.tc_packets.specs.declared.flights.Plain.{Plain}
 use Rattle.tc_packets.specs.declared.flights.FlightActivity.{FlightActivity}
 use Rattle.tc_packets.specs.declared.telecommand_readers.PacketFault.{PacketFault}
@@ -42,7 +45,8 @@ request_passes profile octets identity ack plain flies fit e =
     (parts_of_packet profile octets identity ack plain.service plain.subtype (plain_data_of plain) e) flies
     (some_is plain.service fit.service_known.0) (some_is plain.subtype fit.subtype_known.0) (λ is. absurd (fit.service_known.2 is))
 
-pub request_headless : (profile : Profile) (octets : List ℕ) (fault : PacketFault) → HeadersSay profile octets (Some fault) → ReadsRequest profile octets None
+pub request_headless : (profile : Profile) (octets : List ℕ) (fault : PacketFault) → HeadersSay profile octets (Some fault)
+    → ReadsRequest profile octets None
 request_headless profile octets fault says identity ack plain flies fit e =
     heads_against profile octets fault (request_passes profile octets identity ack plain flies fit e) says
 
@@ -71,10 +75,15 @@ begins_inside : (profile : Profile) (octets : List ℕ) (activity : FlightActivi
     → (13 ≤ length (activity_packet_of profile activity)) × (activity_length profile activity ≤ length octets)
 begins_inside profile octets activity begins =
     let size = packet_length profile activity.identity activity.ack activity.plain.service activity.plain.subtype (plain_data_of activity.plain) in
-    let cut : length (take (length (activity_packet_of profile activity)) (drop (time_length profile) octets)) ≡ length (activity_packet_of profile activity) =
+    let cut : length (take (length (activity_packet_of profile activity)) (drop (time_length profile) octets))
+    ≡ length (activity_packet_of profile activity) =
     ap length begins.packet in (
       omega arith,
-      omega (arith, length-take (length (activity_packet_of profile activity)) (drop (time_length profile) octets), length-drop (time_length profile) octets),
+      omega (
+        arith,
+        length-take (length (activity_packet_of profile activity)) (drop (time_length profile) octets),
+        length-drop (time_length profile) octets,
+      ),
     )
 
 pub begins_short : (profile : Profile) (octets : List ℕ) → length octets < time_length profile + 6 → BeginsWithNone profile octets
@@ -84,7 +93,8 @@ begins_short profile octets short activity begins =
     let most = inside.1 in
     absurd (omega arith)
 
-pub begins_cut : (profile : Profile) (octets : List ℕ) → length (drop (time_length profile) octets) < whole_length_in (drop (time_length profile) octets)
+pub begins_cut : (profile : Profile) (octets : List ℕ)
+    → length (drop (time_length profile) octets) < whole_length_in (drop (time_length profile) octets)
     → BeginsWithNone profile octets
 begins_cut profile octets short activity begins =
     let inside = begins_inside profile octets activity begins in
@@ -109,14 +119,19 @@ activity_no_request profile octets packet has none activity fit begins =
     (has.there ∙ ap (λ n. take n (drop (time_length profile) octets)) (activity_told profile octets activity begins) ∙ begins.packet)
 
 pub activity_some : (profile : Profile) (octets packet : List ℕ) (activity : FlightActivity) → BeginsWithPacket profile octets packet
-    → IsTime profile (take (time_length profile) octets) activity.time → ReadsRequest profile packet (Some (activity.identity, activity.ack, activity.plain))
+    → IsTime profile (take (time_length profile) octets) activity.time
+    → ReadsRequest profile packet (Some (activity.identity, activity.ack, activity.plain))
     → FoundActivity profile octets activity (time_length profile + length packet)
 activity_some profile octets packet activity has timed says =
     let whole : packet ≡ activity_packet_of profile activity = says.2 in
     let inside = has.inside in
     let cut : length packet ≡ whole_length_in (drop (time_length profile) octets) =
-    omega
-    (arith, ap length has.there, length-take (whole_length_in (drop (time_length profile) octets)) (drop (time_length profile) octets), length-drop (time_length profile) octets) in
+    omega (
+      arith,
+      ap length has.there,
+      length-take (whole_length_in (drop (time_length profile) octets)) (drop (time_length profile) octets),
+      length-drop (time_length profile) octets,
+    ) in
     record {
       fit = record { timed = timed.0; flying = says.0; asked = says.1 };
       there = record {
@@ -163,14 +178,20 @@ pub record HasRead (profile : Profile) (octets left : List ℕ) (count : ℕ) (p
 
 pub read_first : (profile : Profile) (octets : List ℕ) (first : FlightActivity) (taken : ℕ) → FoundActivity profile octets first taken
     → HasRead profile octets (drop taken octets) 1 (replicate 8 first)
-read_first profile octets first taken found = record { eight = refl; fit = (found.fit, tt); there = (found.there, ap (λ n. drop n octets) found.size) }
+read_first profile octets first taken found = record {
+  eight = refl;
+  fit = (found.fit, tt);
+  there =
+      (found.there, ap (λ n. drop n octets) found.size);
+}
 
 pub read_next : (profile : Profile) (octets left : List ℕ) (count : ℕ) (places : List FlightActivity) (activity : FlightActivity) (taken : ℕ)
     → HasRead profile octets left count places → count < 8 → FoundActivity profile left activity taken
     → HasRead profile octets (drop taken left) (count + 1) (set places count activity)
 read_next profile octets left count places activity taken has room found =
     let eight = has.eight in
-    let front : take (count + 1) (set places count activity) ≡ take count places ++ activity ∷ [] = take-set_at places count (count + 1) activity refl (omega arith) in
+    let front : take (count + 1) (set places count activity) ≡ take count places ++ activity ∷ [] =
+    take-set_at places count (count + 1) activity refl (omega arith) in
     record {
       eight = length-set places count activity ∙ eight;
       fit = subst (AllByRecursion (FitsActivity profile)) (sym front) (fit_then profile (take count places) activity has.fit found.fit);
@@ -180,13 +201,15 @@ read_next profile octets left count places activity taken has room found =
           (activities_then profile octets (take count places) left activity has.there found.there));
     }
 
-pub first_none : (profile : Profile) (octets : List ℕ) (number : ℕ) → 1 ≤ number → ReadsActivity profile octets None → ReadsActivities profile number octets None
+pub first_none : (profile : Profile) (octets : List ℕ) (number : ℕ) → 1 ≤ number → ReadsActivity profile octets None
+    → ReadsActivities profile number octets None
 first_none profile octets number some none more fit size all = none_after profile octets [] more octets tt fit (omega arith) refl all none
 
 front_size : (places : List FlightActivity) (count : ℕ) → length places ≡ 8 → count ≤ 8 → length (take count places) ≡ count
 front_size places count eight few = omega (arith, length-take count places)
 
-pub next_none : (profile : Profile) (octets left : List ℕ) (count number : ℕ) (places : List FlightActivity) → HasRead profile octets left count places
+pub next_none : (profile : Profile) (octets left : List ℕ) (count number : ℕ) (places : List FlightActivity)
+    → HasRead profile octets left count places
     → count < number → number ≤ 8 → ReadsActivity profile left None → ReadsActivities profile number octets None
 next_none profile octets left count number places has below few none more fit size all =
     let front = front_size places count has.eight (omega arith) in

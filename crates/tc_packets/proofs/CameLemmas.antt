@@ -1,5 +1,6 @@
 -- Octets that lie in frames that came, and what is still to come of packets.
-use Rattle.std.proofs.Common.{◌≡◌, ℕ, zero, suc, ◌+◌, ◌-◌, ◌*◌, ◌/◌, ◌<◌, ◌≤◌, Bool, true, false, List, [], ◌∷◌, ◌++◌, length, get_or, refl, sym, ap, ◌∙◌, arith}
+use Rattle.std.proofs.Common.{◌≡◌, ℕ, zero, suc, ◌+◌, ◌-◌, ◌*◌, ◌/◌, ◌<◌, ◌≤◌, Bool, true, false, List, [], ◌∷◌, ◌++◌, length, get_or, refl, sym, ap}
+use Rattle.std.proofs.Common.{◌∙◌, arith}
 use Rattle.std.specs.Prelude.{◌&&◌, if◌then◌else◌}
 use Rattle.std.proofs.lemmas.Bool.{and_from, and_left}
 use Rattle.std.proofs.lemmas.Nat.{div-mul-add}
@@ -55,7 +56,8 @@ came_on size came i at n m all e low high b =
     ∙ all_split size came at n m
     ∙ ap (λ c. c && all_came size came (at + n) m) (all_inside size came i at n low high b)
 
-pub lost_on : (size : ℕ) (came : List Bool) (i at n m all : ℕ) → 0 < n → all ≡ n + m → i * size ≤ at → at + n ≤ i * size + size → get_or came i false ≡ false
+pub lost_on : (size : ℕ) (came : List Bool) (i at n m all : ℕ) → 0 < n → all ≡ n + m → i * size ≤ at → at + n ≤ i * size + size
+    → get_or came i false ≡ false
     → all_came size came at all ≡ false
 lost_on size came i at n m all some e low high b =
     ap (λ k. all_came size came at k) e
@@ -86,11 +88,13 @@ expect_of size came ok at part (octet ∷ todo) rest =
     cons_if (ok && all_came size came at (length (octet ∷ todo))) (part ++ octet ∷ todo) (that_came size came (at + length (octet ∷ todo)) rest)
 
 pub expect_within : (size : ℕ) (came : List Bool) (ok : Bool) (at : ℕ) (part todo : List ℕ) (rest : List (List ℕ)) → 0 < length todo
-    → expect_of size came ok at part todo rest ≡ cons_if (ok && all_came size came at (length todo)) (part ++ todo) (that_came size came (at + length todo) rest)
+    → expect_of size came ok at part todo rest ≡ cons_if (ok && all_came size came at (length todo)) (part ++ todo)
+    (that_came size came (at + length todo) rest)
 expect_within size came ok at part [] rest h = absurd (omega arith)
 expect_within size came ok at part (octet ∷ todo) rest h = refl
 
-pub cons_came : (ok : Bool) (first : List ℕ) (inner more : List (List ℕ)) → cons_if (ok && true) first (inner ++ more) ≡ (chosen ok (first ∷ []) ++ inner) ++ more
+pub cons_came : (ok : Bool) (first : List ℕ) (inner more : List (List ℕ))
+    → cons_if (ok && true) first (inner ++ more) ≡ (chosen ok (first ∷ []) ++ inner) ++ more
 cons_came true first inner more = refl
 cons_came false first inner more = refl
 

@@ -1,5 +1,6 @@
 -- Packets that are sent over frames come back.
-use Rattle.std.proofs.Common.{◌≡◌, ℕ, zero, suc, ◌+◌, ◌-◌, ◌*◌, ◌/◌, ◌%◌, ◌^◌, ◌<◌, ◌≤◌, true, false, List, [], ◌∷◌, ◌++◌, map, take, drop, length, refl, sym, ap, subst, ◌∙◌, inl, inr, arith}
+use Rattle.std.proofs.Common.{◌≡◌, ℕ, zero, suc, ◌+◌, ◌-◌, ◌*◌, ◌/◌, ◌%◌, ◌^◌, ◌<◌, ◌≤◌, true, false, List, [], ◌∷◌, ◌++◌, map, take, drop, length}
+use Rattle.std.proofs.Common.{refl, sym, ap, subst, ◌∙◌, inl, inr, arith}
 use Rattle.std.specs.Prelude.{◌==◌, nat_lt}
 use Rattle.std.specs.List.{AllByRecursion, concat, range_with_len}
 use Rattle.std.proofs.lemmas.Bool.{cases_eq, cases_lt, cond-false, cond-true, cond_both, eq-eqb, le-ltb, lt-ltb, ne_eqb}
@@ -8,9 +9,11 @@ use Rattle.std.proofs.lemmas.List.FromFn.{length-map-range_with_len}
 use Rattle.std.proofs.lemmas.Nat.{div-mul-add}
 use Rattle.tc_octets.specs.TmFrames.{TmParts}
 use Rattle.tc_octets.specs.declared.profiles.Profile.{Profile}
-use Rattle.tc_packets.specs.Carriers.{carrying, data_length, fill_of, filled, frames_of, idle_frame, idle_length, idle_packet, pointer_in, starts}
+use Rattle.tc_packets.specs.Carriers.{carrying, data_length, fill_of, filled, frames_of, idle_frame, idle_length, pointer_in, starts}
+use Rattle.tc_packets.specs.SpacePackets.{idle_packet_of}
 use Rattle.tc_packets.specs.CarrierLaws.{Awaits, ComesBack, IsPacket, PacketsComeBack, PartsStayShort, ReportsComeBack, is_idle, reports_in, run}
-use Rattle.tc_packets.specs.Receivers.{Received, Receiver, and_then, counted, dropped, gap, is_next, looked_at, marked, packet, quiet, received, received_to}
+use Rattle.tc_packets.specs.Receivers.{Received, Receiver, and_then, counted, dropped, gap, is_next, looked_at, marked, packet, quiet, received}
+use Rattle.tc_packets.specs.Receivers.{received_to}
 use Rattle.tc_packets.specs.declared.tm_senders.TmSender.{TmSender}
 use Rattle.tc_packets.proofs.ReceiverLemmas.{received_small}
 use Rattle.tc_packets.proofs.SenderLemmas.{concat_append, data_bounds}
@@ -33,10 +36,10 @@ no_packets (first ∷ packets) all e = absurd (omega (arith, packet_some first a
 
 -- ---- the fill
 
-idle_size : (size : ℕ) → 7 ≤ size → length (idle_packet size) ≡ size
+idle_size : (size : ℕ) → 7 ≤ size → length (idle_packet_of size) ≡ size
 idle_size size h = let fill = length-replicate {A = ℕ} (size - 6) 0x55 in omega arith
 
-idle_whole : (size : ℕ) → 7 ≤ size → IsPacket (idle_packet size)
+idle_whole : (size : ℕ) → 7 ≤ size → IsPacket (idle_packet_of size)
 idle_whole size h = let long = idle_size size h in record { told = omega arith; version = omega arith }
 
 idle_least : (size left : ℕ) → 7 ≤ size → 7 ≤ idle_length size left
@@ -48,11 +51,13 @@ idle_least size left h =
 
 pub fill_none : (size octets : ℕ) → octets % size ≡ 0 → fill_of size octets ≡ []
 unfolding fill_of
-fill_none size octets e = cond-true (octets % size == 0) [] (idle_packet (idle_length size (size - octets % size)) ∷ []) (eq-eqb (octets % size) 0 e)
+fill_none size octets e = cond-true (octets % size == 0) [] (idle_packet_of (idle_length size (size - octets % size)) ∷ [])
+    (eq-eqb (octets % size) 0 e)
 
-fill_some : (size octets : ℕ) → (octets % size ≡ 0 → ⊥) → fill_of size octets ≡ idle_packet (idle_length size (size - octets % size)) ∷ []
+fill_some : (size octets : ℕ) → (octets % size ≡ 0 → ⊥) → fill_of size octets ≡ idle_packet_of (idle_length size (size - octets % size)) ∷ []
 unfolding fill_of
-fill_some size octets ne = cond-false (octets % size == 0) [] (idle_packet (idle_length size (size - octets % size)) ∷ []) (ne_eqb (octets % size) 0 ne)
+fill_some size octets ne = cond-false (octets % size == 0) [] (idle_packet_of (idle_length size (size - octets % size)) ∷ [])
+    (ne_eqb (octets % size) 0 ne)
 
 fill_whole : (size octets : ℕ) → 7 ≤ size → AllByRecursion IsPacket (fill_of size octets)
 fill_whole size octets h =
@@ -71,23 +76,27 @@ fill_length : (size octets : ℕ) → 7 ≤ size → (octets % size ≡ 0 → �
     → length (concat (fill_of size octets)) ≡ idle_length size (size - octets % size)
 fill_length size octets h ne =
     ap (λ l. length (concat l)) (fill_some size octets ne)
-    ∙ ap (λ (l : List ℕ). length l) (append-nil (idle_packet (idle_length size (size - octets % size))))
+    ∙ ap (λ (l : List ℕ). length l) (append-nil (idle_packet_of (idle_length size (size - octets % size))))
     ∙ idle_size (idle_length size (size - octets % size)) (idle_least size (size - octets % size) h)
 
-even_by : (size octets fill q r : ℕ) → octets ≡ size * q + r → r < size → (r ≡ 0 → ⊥) → fill ≡ idle_length size (size - r) → IsEven size (octets + fill)
+even_by : (size octets fill q r : ℕ) → octets ≡ size * q + r → r < size → (r ≡ 0 → ⊥) → fill ≡ idle_length size (size - r)
+    → IsEven size (octets + fill)
 even_by size octets fill q r e lt ne f =
     elim (cases_lt (size - r) 7) [
       | inl few ↦
-          let long : idle_length size (size - r) ≡ size - r + size = cond-true (nat_lt (size - r) 7) (size - r + size) (size - r) (lt-ltb (size - r) 7 few) in
+          let long : idle_length size (size - r) ≡ size - r + size =
+          cond-true (nat_lt (size - r) 7) (size - r + size) (size - r) (lt-ltb (size - r) 7 few) in
           let turns : (q + 2) * size ≡ size * q + size + size = omega arith in
           record { count = q + 2; is = omega arith }
       | inr many ↦
-          let long : idle_length size (size - r) ≡ size - r = cond-false (nat_lt (size - r) 7) (size - r + size) (size - r) (le-ltb (size - r) 7 many) in
+          let long : idle_length size (size - r) ≡ size - r =
+          cond-false (nat_lt (size - r) 7) (size - r + size) (size - r) (le-ltb (size - r) 7 many) in
           let turns : (q + 1) * size ≡ size * q + size = omega arith in
           record { count = q + 1; is = omega arith }
     ]
 
-filled_length : (size : ℕ) (packets : List (List ℕ)) → length (concat (filled size packets)) ≡ length (concat packets) + length (concat (fill_of size (length (concat packets))))
+filled_length : (size : ℕ) (packets : List (List ℕ)) → length (concat (filled size packets))
+    ≡ length (concat packets) + length (concat (fill_of size (length (concat packets))))
 filled_length size packets =
     ap (λ (l : List ℕ). length l) (concat_append packets (fill_of size (length (concat packets))))
     ∙ length-append (concat packets) (concat (fill_of size (length (concat packets))))
@@ -103,7 +112,8 @@ filled_even size packets h =
           record { count = octets / size; is = omega (arith, filled_length size packets) }
       | inr ne ↦
           subst (λ (n : ℕ). IsEven size n) (sym (filled_length size packets))
-          (even_by size octets (length (concat (fill_of size octets))) (octets / size) (octets % size) split (omega arith) ne (fill_length size octets h ne))
+          (even_by size octets (length (concat (fill_of size octets))) (octets / size) (octets % size) split (omega arith) ne
+          (fill_length size octets h ne))
     ]
 
 -- ---- one frame after the other
@@ -243,7 +253,8 @@ comes profile sender word all (suc n) i s receiver f =
     let count : sender.channel_count + (i + 1) + n ≡ sender.channel_count + i + suc n = omega arith in
     record {
       given =
-          ap (λ (r : Received). r.given ++ (run (received_to receiver frame) frames).given) (frame_brings profile sender word all (suc n) i s receiver f t)
+          ap (λ (r : Received). r.given ++ (run (received_to receiver frame) frames).given)
+          (frame_brings profile sender word all (suc n) i s receiver f t)
           ∙ ap (λ l. map packet t.whole ++ l) more.given
           ∙ sym (map-append packet t.whole (pending t.next))
           ∙ ap (map packet) (sym t.pending);
@@ -253,7 +264,8 @@ comes profile sender word all (suc n) i s receiver f =
 -- ---- a list of packets
 
 follows_first : (profile : Profile) (sender : TmSender) (all : List (List ℕ)) (n : ℕ) (receiver : Receiver) → AllByRecursion IsPacket all
-    → length (concat all) ≡ n * data_length profile → Awaits receiver (sender.channel_count % 2 ^ 8) → Follows profile sender all n 0 (between all) receiver
+    → length (concat all) ≡ n * data_length profile → Awaits receiver (sender.channel_count % 2 ^ 8)
+    → Follows profile sender all n 0 (between all) receiver
 follows_first profile sender all n receiver whole e awaits =
     let same : sender.channel_count ≡ sender.channel_count + 0 = omega arith in
     record {
@@ -284,13 +296,15 @@ fills profile packets all =
     }
 
 come_filled : (profile : Profile) (sender : TmSender) (word : ℕ) (first : List ℕ) (packets : List (List ℕ)) (receiver : Receiver)
-    → AllByRecursion IsPacket (first ∷ packets) → Awaits receiver (sender.channel_count % 2 ^ 8) → ComesBack profile sender word (first ∷ packets) receiver
+    → AllByRecursion IsPacket (first ∷ packets) → Awaits receiver (sender.channel_count % 2 ^ 8)
+    → ComesBack profile sender word (first ∷ packets) receiver
 come_filled profile sender word first packets receiver all awaits =
     let size : ℕ = data_length profile in
     let sent : List (List ℕ) = filled size (first ∷ packets) in
     let n : ℕ = length (concat sent) / size in
     let filled_up = fills profile (first ∷ packets) all in
-    let came = comes profile sender word sent n 0 (between sent) receiver (follows_first profile sender sent n receiver filled_up.whole filled_up.left awaits) in
+    let came = comes profile sender word sent n 0 (between sent) receiver
+    (follows_first profile sender sent n receiver filled_up.whole filled_up.left awaits) in
     let frames = length-map-range_with_len (carrying profile sender word (concat sent) (starts 0 sent)) 0 n in
     let count : sender.channel_count + 0 + n ≡ sender.channel_count + length (frames_of profile sender word (first ∷ packets)) = omega arith in
     record {
@@ -307,7 +321,8 @@ idle_comes profile sender word receiver awaits =
     let same : sender.channel_count ≡ sender.channel_count + 0 = omega arith in
     let over : 0 % size ≡ 0 = omega arith in
     let brings : received receiver frame ≡ quiet receiver.part =
-    received_next receiver frame (subst (λ (k : ℕ). is_next receiver.expected (k % 2 ^ 8) ≡ true) same awaits.next) ∙ looked_idle frame.content receiver.part in
+    received_next receiver frame (subst (λ (k : ℕ). is_next receiver.expected (k % 2 ^ 8) ≡ true) same awaits.next)
+    ∙ looked_idle frame.content receiver.part in
     record {
       given = ap (λ (r : Received). r.given ++ []) brings ∙ ap (map packet) (sym (fill_none size 0 over));
       awaits = record {
@@ -322,7 +337,8 @@ packets_come_back profile sender word (first ∷ packets) receiver all awaits = 
 
 -- ---- without idle packets
 
-reports_first : (xs ys : List (List ℕ)) → AllByRecursion (λ octets. is_idle octets ≡ false) xs → reports_in (map packet (xs ++ ys)) ≡ xs ++ reports_in (map packet ys)
+reports_first : (xs ys : List (List ℕ)) → AllByRecursion (λ octets. is_idle octets ≡ false) xs
+    → reports_in (map packet (xs ++ ys)) ≡ xs ++ reports_in (map packet ys)
 reports_first [] ys none = refl
 reports_first (x ∷ xs) ys none =
     cond-false (is_idle x) (reports_in (map packet (xs ++ ys))) (x ∷ reports_in (map packet (xs ++ ys))) none.0
@@ -331,7 +347,8 @@ reports_first (x ∷ xs) ys none =
 fill_idle : (size octets : ℕ) → reports_in (map packet (fill_of size octets)) ≡ []
 unfolding fill_of
 fill_idle size octets =
-    cond_both (octets % size == 0) [] (idle_packet (idle_length size (size - octets % size)) ∷ []) (λ (l : List (List ℕ)). reports_in (map packet l) ≡ [])
+    cond_both (octets % size == 0) [] (idle_packet_of (idle_length size (size - octets % size)) ∷ [])
+    (λ (l : List (List ℕ)). reports_in (map packet l) ≡ [])
     (λ e. refl) (λ e. refl)
 
 pub reports_come_back : ReportsComeBack

@@ -1,14 +1,19 @@
 -- Octets of packets that a frame cuts, and what a receiver takes of them.
-use Rattle.std.proofs.Common.{◌≡◌, ℕ, ◌+◌, ◌-◌, ◌*◌, ◌/◌, ◌%◌, ◌^◌, ◌<◌, ◌≤◌, Bool, true, false, List, [], ◌∷◌, ◌++◌, map, take, drop, length, get_or, refl, sym, ap, subst, ◌∙◌, inl, inr, arith}
+use Rattle.std.proofs.Common.{◌≡◌, ℕ, ◌+◌, ◌-◌, ◌*◌, ◌/◌, ◌%◌, ◌^◌, ◌<◌, ◌≤◌, Bool, true, false, List, [], ◌∷◌, ◌++◌, map, take, drop, length, get_or}
+use Rattle.std.proofs.Common.{refl, sym, ap, subst, ◌∙◌, inl, inr, arith}
 use Rattle.std.specs.Prelude.{if◌then◌else◌, ◌==◌, ◌&&◌, not, nat_le, nat_lt}
 use Rattle.std.specs.List.{AllByRecursion, concat}
 use Rattle.std.proofs.Math.Seq.{take-add}
-use Rattle.std.proofs.lemmas.Bool.{and_from, and_left, and_right, cases_lt, cond-false, cond-true, eq-eqb, le-ltb, lt-leb, lt-ltb, ne_eqb, not_from_true, or_from}
-use Rattle.std.proofs.lemmas.List.{drop-append-le, drop-drop, drop_at, get_or-take, get_or_append_left, length-append, length-drop, length-take-le, nil_from_length, take-append-le, take_at, take-append-drop}
+use Rattle.std.proofs.lemmas.Bool.{and_from, and_left, and_right, cases_lt, cond-false, cond-true, eq-eqb, le-ltb, lt-leb, lt-ltb, ne_eqb}
+use Rattle.std.proofs.lemmas.Bool.{not_from_true, or_from}
+use Rattle.std.proofs.lemmas.List.{drop-append-le, drop-drop, drop_at, get_or-take, get_or_append_left, length-append, length-drop, length-take-le}
+use Rattle.std.proofs.lemmas.List.{nil_from_length, take-append-le, take_at, take-append-drop}
 use Rattle.tc_packets.specs.Carriers.{pointer_in, starts}
 use Rattle.tc_packets.specs.CarrierLaws.{IsPacket}
 use Rattle.tc_packets.specs.LossLaws.{all_came, cons_if, that_came}
-use Rattle.tc_packets.specs.Receivers.{Received, and_then, begun, carried, continued, dropped, ended, is_skipped, looked_at, marked, packet, packet_length, quiet, skipped}
+use Rattle.tc_packets.specs.Receivers.{Received, and_then, begun, carried, continued, dropped, ended, is_skipped, looked_at, marked, packet}
+use Rattle.tc_packets.specs.Receivers.{quiet, skipped}
+use Rattle.tc_packets.specs.SpacePackets.{whole_length_in}
 use Rattle.tc_packets.proofs.CameLemmas.{all_inside, came_on, expect_of, expect_within, lost_on, none_inside}
 use Rattle.tc_packets.proofs.ReceiverLemmas.{begun_nil, begun_short, begun_whole}
 use Rattle.tc_packets.proofs.SenderLemmas.{is_before, pointer_next}
@@ -31,20 +36,21 @@ drop_past first rest n m e =
 
 -- ---- the length that a packet tells
 
-told_more : (octets more : List ℕ) → 6 ≤ length octets → packet_length (octets ++ more) ≡ packet_length octets
+told_more : (octets more : List ℕ) → 6 ≤ length octets → whole_length_in (octets ++ more) ≡ whole_length_in octets
 told_more octets more h =
     let high = get_or_append_left octets more 0 4 (omega arith) in
     let low = get_or_append_left octets more 0 5 (omega arith) in
     omega arith
 
-told_front : (octets : List ℕ) (n : ℕ) → 6 ≤ n → packet_length (take n octets) ≡ packet_length octets
+told_front : (octets : List ℕ) (n : ℕ) → 6 ≤ n → whole_length_in (take n octets) ≡ whole_length_in octets
 told_front octets n h =
     let high = get_or-take n octets 4 0 (omega arith) in
     let low = get_or-take n octets 5 0 (omega arith) in
     omega arith
 
 -- a front of a packet is less than the packet that it begins
-pub front_short : (octets : List ℕ) (n : ℕ) → packet_length octets ≡ length octets → n < length octets → length (take n octets) < packet_length (take n octets)
+pub front_short : (octets : List ℕ) (n : ℕ) → whole_length_in octets ≡ length octets → n < length octets
+    → length (take n octets) < whole_length_in (take n octets)
 front_short octets n e h =
     let size = length-take-le n octets (omega arith) in
     elim (cases_lt n 6) [
@@ -57,18 +63,20 @@ packet_some octets h = let e = h.told in omega arith
 
 -- ---- the packet in progress
 
-pub ended_whole : (may_go_on : Bool) (octets : List ℕ) → packet_length octets ≡ length octets → ended may_go_on octets ≡ record { given = packet octets ∷ []; part = [] }
+pub ended_whole : (may_go_on : Bool) (octets : List ℕ) → whole_length_in octets ≡ length octets
+    → ended may_go_on octets ≡ record { given = packet octets ∷ []; part = [] }
 ended_whole may_go_on octets e =
-    cond-true (length octets == packet_length octets) (record { given = packet octets ∷ []; part = [] })
-    (if may_go_on && nat_lt (length octets) (packet_length octets) then quiet octets else dropped octets) (eq-eqb (length octets) (packet_length octets) (sym e))
+    cond-true (length octets == whole_length_in octets) (record { given = packet octets ∷ []; part = [] })
+    (if may_go_on && nat_lt (length octets) (whole_length_in octets) then quiet octets else dropped octets)
+    (eq-eqb (length octets) (whole_length_in octets) (sym e))
 
-pub ended_on : (octets : List ℕ) → length octets < packet_length octets → ended true octets ≡ quiet octets
+pub ended_on : (octets : List ℕ) → length octets < whole_length_in octets → ended true octets ≡ quiet octets
 ended_on octets h =
-    cond-false (length octets == packet_length octets) (record { given = packet octets ∷ []; part = [] })
-    (if true && nat_lt (length octets) (packet_length octets) then quiet octets else dropped octets)
-    (ne_eqb (length octets) (packet_length octets) (λ e. omega arith))
-    ∙ cond-true (true && nat_lt (length octets) (packet_length octets)) (quiet octets) (dropped octets)
-    (and_from true (nat_lt (length octets) (packet_length octets)) refl (lt-ltb (length octets) (packet_length octets) h))
+    cond-false (length octets == whole_length_in octets) (record { given = packet octets ∷ []; part = [] })
+    (if true && nat_lt (length octets) (whole_length_in octets) then quiet octets else dropped octets)
+    (ne_eqb (length octets) (whole_length_in octets) (λ e. omega arith))
+    ∙ cond-true (true && nat_lt (length octets) (whole_length_in octets)) (quiet octets) (dropped octets)
+    (and_from true (nat_lt (length octets) (whole_length_in octets)) refl (lt-ltb (length octets) (whole_length_in octets) h))
 
 pub continued_none : (may_go_on : Bool) (octets : List ℕ) → continued may_go_on [] octets ≡ quiet []
 unfolding continued
@@ -97,12 +105,14 @@ pub carried_idle : (content part : List ℕ) → carried 2046 content part ≡ q
 unfolding carried
 carried_idle content part = refl
 
-not_skipped_at : (pointer size : ℕ) → pointer < 2 ^ 11 → (nat_le size pointer && nat_lt pointer 2046) ≡ false → is_skipped (3 * 2 ^ 11 + pointer) size ≡ false
+not_skipped_at : (pointer size : ℕ) → pointer < 2 ^ 11 → (nat_le size pointer && nat_lt pointer 2046) ≡ false
+    → is_skipped (3 * 2 ^ 11 + pointer) size ≡ false
 unfolding is_skipped
 not_skipped_at pointer size h e =
     let high : (3 * 2 ^ 11 + pointer) / 2 ^ 11 ≡ 3 = omega arith in
     let low : pointer ≡ (3 * 2 ^ 11 + pointer) % 2 ^ 11 = omega arith in
-    or_from (not ((3 * 2 ^ 11 + pointer) / 2 ^ 11 == 3)) (nat_le size ((3 * 2 ^ 11 + pointer) % 2 ^ 11) && nat_lt ((3 * 2 ^ 11 + pointer) % 2 ^ 11) 2046)
+    or_from (not ((3 * 2 ^ 11 + pointer) / 2 ^ 11 == 3))
+    (nat_le size ((3 * 2 ^ 11 + pointer) % 2 ^ 11) && nat_lt ((3 * 2 ^ 11 + pointer) % 2 ^ 11) 2046)
     (not_from_true ((3 * 2 ^ 11 + pointer) / 2 ^ 11 == 3) (eq-eqb ((3 * 2 ^ 11 + pointer) / 2 ^ 11) 3 high))
     (subst (λ (n : ℕ). (nat_le size n && nat_lt n 2046) ≡ false) low e)
 
@@ -111,7 +121,8 @@ looked_by : (pointer : ℕ) (content part : List ℕ) → pointer < 2 ^ 11 → (
 unfolding looked_at
 looked_by pointer content part h e =
     let low : (3 * 2 ^ 11 + pointer) % 2 ^ 11 ≡ pointer = omega arith in
-    cond-false (is_skipped (3 * 2 ^ 11 + pointer) (length content)) (marked skipped (dropped part)) (carried ((3 * 2 ^ 11 + pointer) % 2 ^ 11) content part)
+    cond-false (is_skipped (3 * 2 ^ 11 + pointer) (length content)) (marked skipped (dropped part))
+    (carried ((3 * 2 ^ 11 + pointer) % 2 ^ 11) content part)
     (not_skipped_at pointer (length content) h e)
     ∙ ap (λ n. carried n content part) low
 
@@ -175,7 +186,8 @@ pub record Cuts (n at : ℕ) (packets : List (List ℕ)) : Type 0 where
   pub pending : packets ≡ whole ++ pending next
   pub begun : begun 0 (take n (concat packets)) ≡ record { given = map packet whole; part = next.part }
   pub stream : drop n (concat packets) ≡ next.todo ++ concat next.rest
-  pub pointers : (begin size : ℕ) → at + n ≤ begin → pointer_in begin size (starts at packets) ≡ pointer_in begin size (starts (at + n + length next.todo) next.rest)
+  pub pointers : (begin size : ℕ) → at + n ≤ begin → pointer_in begin size (starts at packets)
+      ≡ pointer_in begin size (starts (at + n + length next.todo) next.rest)
   pub came : (size : ℕ) (came : List Bool) (i : ℕ) → i * size ≤ at → at + n ≡ i * size + size → get_or came i false ≡ true
       → that_came size came at packets ≡ whole ++ expect size came true (at + n) next
   pub lost : (size : ℕ) (came : List Bool) (i : ℕ) → i * size ≤ at → at + n ≡ i * size + size → get_or came i false ≡ false
@@ -212,20 +224,24 @@ cuts_within n at first packets h some lt =
       begun =
           ap (begun 0) (take-append-le n first (concat packets) (omega arith))
           ∙ begun_short (take n first) (omega arith) (omega arith)
-          (lt-ltb (length (take n first)) (packet_length (take n first)) (front_short first n h.told lt));
+          (lt-ltb (length (take n first)) (whole_length_in (take n first)) (front_short first n h.told lt));
       stream = drop-append-le n first (concat packets) (omega arith);
       pointers = λ begin size le.
           pointer_next begin size at (starts (at + length first) packets) (is_before begin size at (omega arith))
           ∙ ap (λ k. pointer_in begin size (starts k packets)) rest_at;
       came = λ wide came i low high b.
           let rest : length first ≡ n + length (drop n first) = omega arith in
-          ap (λ c. cons_if c first (that_came wide came (at + length first) packets)) (came_on wide came i at n (length (drop n first)) (length first) rest low (omega arith) b)
-          ∙ ap (λ l. cons_if (all_came wide came (at + n) (length (drop n first))) l (that_came wide came (at + length first) packets)) (sym (take-append-drop n first))
-          ∙ ap (λ k. cons_if (all_came wide came (at + n) (length (drop n first))) (take n first ++ drop n first) (that_came wide came k packets)) rest_at
+          ap (λ c. cons_if c first (that_came wide came (at + length first) packets))
+          (came_on wide came i at n (length (drop n first)) (length first) rest low (omega arith) b)
+          ∙ ap (λ l. cons_if (all_came wide came (at + n) (length (drop n first))) l (that_came wide came (at + length first) packets))
+          (sym (take-append-drop n first))
+          ∙ ap (λ k. cons_if (all_came wide came (at + n) (length (drop n first))) (take n first ++ drop n first) (that_came wide came k packets))
+          rest_at
           ∙ sym (expect_within wide came true (at + n) (take n first) (drop n first) packets (omega arith));
       lost = λ wide came i low high b.
           let rest : length first ≡ n + length (drop n first) = omega arith in
-          ap (λ c. cons_if c first (that_came wide came (at + length first) packets)) (lost_on wide came i at n (length (drop n first)) (length first) some rest low (omega arith) b)
+          ap (λ c. cons_if c first (that_came wide came (at + length first) packets))
+          (lost_on wide came i at n (length (drop n first)) (length first) some rest low (omega arith) b)
           ∙ ap (λ k. that_came wide came k packets) rest_at
           ∙ sym (expect_within wide came false (at + n) (take n first) (drop n first) packets (omega arith));
     }
@@ -239,7 +255,7 @@ cuts_whole n at first packets h le more =
     let x : List ℕ = take (n - length first) (concat packets) in
     let octets : take n (first ++ concat packets) ≡ first ++ x = take_past first (concat packets) n (n - length first) m in
     let first_octet = get_or_append_left first x 0 0 (omega arith) in
-    let told : packet_length (first ++ x) ≡ length first = told_more first x (omega arith) ∙ h.told in
+    let told : whole_length_in (first ++ x) ≡ length first = told_more first x (omega arith) ∙ h.told in
     let size = length-append first x in
     let place : at + length first + (n - length first) ≡ at + n = omega arith in
     record {
@@ -249,7 +265,7 @@ cuts_whole n at first packets h le more =
       pending = ap (λ l. first ∷ l) more.pending;
       begun =
           ap (begun 0) octets
-          ∙ begun_whole (first ++ x) (omega arith) (omega arith) (le-ltb (length (first ++ x)) (packet_length (first ++ x)) (omega arith))
+          ∙ begun_whole (first ++ x) (omega arith) (omega arith) (le-ltb (length (first ++ x)) (whole_length_in (first ++ x)) (omega arith))
           ∙ ap (λ k. marked (packet (take k (first ++ x))) (begun 0 (drop k (first ++ x)))) told
           ∙ ap (λ l. marked (packet l) (begun 0 (drop (length first) (first ++ x)))) (take_at first x (length first) refl)
           ∙ ap (λ l. marked (packet first) (begun 0 l)) (drop_at first x (length first) refl)
@@ -265,7 +281,8 @@ cuts_whole n at first packets h le more =
           ∙ ap (λ l. first ∷ l)
           (more.came wide came i (omega arith) (omega arith) b ∙ ap (λ k. more.whole ++ expect wide came true k more.next) place);
       lost = λ wide came i low high b.
-          ap (λ c. cons_if c first (that_came wide came (at + length first) packets)) (none_inside wide came i at (length first) (omega arith) low (omega arith) b)
+          ap (λ c. cons_if c first (that_came wide came (at + length first) packets))
+          (none_inside wide came i at (length first) (omega arith) low (omega arith) b)
           ∙ more.lost wide came i (omega arith) (omega arith) b
           ∙ ap (λ k. expect wide came false k more.next) place;
     }

@@ -10,6 +10,7 @@ pub mod SameLemmas
 pub mod WrittenLemmas
 pub mod TaskLemmas
 pub mod ActivityLemmas
+pub mod EpochCases
 mod ReportCases
 mod PacketCases
 pub mod ReceiverLemmas
@@ -20,3 +21,4 @@ pub mod TurnLemmas
 pub mod CarrierLawLemmas
 pub mod LossLemmas
 mod CarrierCases
+pub mod UplinkLemmas

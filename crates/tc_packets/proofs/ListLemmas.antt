@@ -1,5 +1,6 @@
 -- Lists: octets in 96 places, and what holds of each item.
-use Rattle.std.proofs.Common.{◌≡◌, ℕ, zero, suc, ◌+◌, ◌-◌, ◌<◌, ◌≤◌, List, [], ◌∷◌, ◌++◌, length, take, drop, get_or, replicate, slice_index_or, refl, sym, ap, ◌∙◌, subst, arith}
+use Rattle.std.proofs.Common.{◌≡◌, ℕ, zero, suc, ◌+◌, ◌-◌, ◌<◌, ◌≤◌, List, [], ◌∷◌, ◌++◌, length, take, drop, get_or, replicate, slice_index_or, refl}
+use Rattle.std.proofs.Common.{sym, ap, ◌∙◌, subst, arith}
 use Rattle.std.specs.List.{AllByRecursion, flat_map}
 use Rattle.std.proofs.Math.Seq.{take-append_seam}
 use Rattle.std.proofs.lemmas.List.{drop-replicate, length-append, length-replicate, take_more, take_all, append-nil, append_assoc}
@@ -13,10 +14,12 @@ pub laid_out : (octets : List ℕ) → length octets ≤ most_data
     × (length (octets ++ drop (length octets) (replicate 96 0)) ≡ 96)
     × (length (take (length octets) (octets ++ drop (length octets) (replicate 96 0))) ≤ most_data)
 laid_out octets h =
-    let front : take (length octets) (octets ++ drop (length octets) (replicate 96 0)) ≡ octets = take-append_seam octets (drop (length octets) (replicate 96 0)) in
+    let front : take (length octets) (octets ++ drop (length octets) (replicate 96 0)) ≡ octets =
+    take-append_seam octets (drop (length octets) (replicate 96 0)) in
     let zeros : drop {A = ℕ} (length octets) (replicate 96 0) ≡ replicate (96 - length octets) 0 = drop-replicate (length octets) 96 0 in
     let all : length (octets ++ drop (length octets) (replicate 96 0)) ≡ 96 =
-    rw (zeros, length-append octets (replicate (96 - length octets) 0), length-replicate {A = ℕ} (96 - length octets) 0) (let s : length octets ≤ 96 = h in omega arith) in
+    rw (zeros, length-append octets (replicate (96 - length octets) 0), length-replicate {A = ℕ} (96 - length octets) 0)
+    (let s : length octets ≤ 96 = h in omega arith) in
     (h, rw front (rw zeros refl), all, rw front h)
 
 -- ---- what holds of each item, by its place

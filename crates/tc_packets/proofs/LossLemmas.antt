@@ -1,5 +1,6 @@
 -- If frames are lost, the packets come all of whose octets came.
-use Rattle.std.proofs.Common.{◌≡◌, ℕ, suc, ◌+◌, ◌*◌, ◌/◌, ◌%◌, ◌^◌, ◌<◌, Bool, true, false, List, [], ◌∷◌, ◌++◌, map, take, drop, length, get_or, Option, Some, refl, sym, ap, subst, ◌∙◌, inl, inr, arith}
+use Rattle.std.proofs.Common.{◌≡◌, ℕ, suc, ◌+◌, ◌*◌, ◌/◌, ◌%◌, ◌^◌, ◌<◌, Bool, true, false, List, [], ◌∷◌, ◌++◌, map, take, drop, length, get_or}
+use Rattle.std.proofs.Common.{Option, Some, refl, sym, ap, subst, ◌∙◌, inl, inr, arith}
 use Rattle.std.specs.Prelude.{◌||◌}
 use Rattle.std.specs.List.{AllByRecursion, concat, range_with_len}
 use Rattle.std.proofs.lemmas.Bool.{cases_Bool, cond-false, cond-true, eq-eqb, ne_eqb}
@@ -10,7 +11,8 @@ use Rattle.tc_octets.specs.declared.profiles.Profile.{Profile}
 use Rattle.tc_packets.specs.Carriers.{carrying, data_length, filled, frames_of, idle_frame, pointer_in, starts}
 use Rattle.tc_packets.specs.CarrierLaws.{IsPacket, run}
 use Rattle.tc_packets.specs.LossLaws.{Behind, FewLost, LossesShow, WholePacketsCome, at_rest, kept, lost_after, missing, packets_in, that_came}
-use Rattle.tc_packets.specs.Receivers.{Given, Received, Receiver, and_then, counted, cut, dropped, gap, is_next, looked_at, marked, packet, quiet, received, received_to, skipped}
+use Rattle.tc_packets.specs.Receivers.{Given, Received, Receiver, and_then, counted, cut, dropped, gap, is_next, looked_at, marked, packet, quiet}
+use Rattle.tc_packets.specs.Receivers.{received, received_to, skipped}
 use Rattle.tc_packets.specs.declared.tm_senders.TmSender.{TmSender}
 use Rattle.tc_packets.proofs.CameLemmas.{chosen, chosen_all, chosen_none, expect_of, live}
 use Rattle.tc_packets.proofs.SenderLemmas.{data_bounds}
@@ -42,7 +44,8 @@ counted_next : (expected : Option ℕ) (count : ℕ) (part : List ℕ) → is_ne
 unfolding counted
 counted_next expected count part e = cond-true (is_next expected count) (quiet part) (marked gap (dropped part)) e
 
-counted_gap : (expected : Option ℕ) (count : ℕ) (part : List ℕ) → is_next expected count ≡ false → counted expected count part ≡ marked gap (dropped part)
+counted_gap : (expected : Option ℕ) (count : ℕ) (part : List ℕ) → is_next expected count ≡ false
+    → counted expected count part ≡ marked gap (dropped part)
 unfolding counted
 counted_gap expected count part e = cond-false (is_next expected count) (quiet part) (marked gap (dropped part)) e
 
@@ -100,7 +103,8 @@ lost_one : (receiver : Receiver) (count lost : ℕ) (ok : Bool) (part later : Li
     → Before receiver (count + 1) (lost + 1) false later
 lost_one receiver count lost ok part later (follows none e expects) = stale (count % 2 ^ 8) (omega arith) refl expects (omega arith) (omega arith)
 lost_one receiver count lost ok part later (empty e none) = empty e refl
-lost_one receiver count lost ok part later (stale expected some no_more expects small late) = stale expected (omega arith) refl expects small (omega arith)
+lost_one receiver count lost ok part later (stale expected some no_more expects small late) =
+    stale expected (omega arith) refl expects small (omega arith)
 
 -- ---- a frame that comes
 
@@ -125,7 +129,8 @@ seen size at s t false =
     ∙ ap (λ b. record { given = map packet (chosen false t.ended ++ t.inner); part = live b t.next.part }) (sym (or_false t.over))
 
 received_is : (receiver : Receiver) (frame : TmParts)
-    → received receiver frame ≡ and_then (counted receiver.expected frame.channel_count receiver.part) (λ part. looked_at frame.status frame.content part)
+    → received receiver frame ≡ and_then (counted receiver.expected frame.channel_count receiver.part)
+    (λ part. looked_at frame.status frame.content part)
 unfolding received
 received_is receiver frame = refl
 
@@ -134,7 +139,8 @@ record Brings (receiver : Receiver) (frame : TmParts) (packets : List (List ℕ)
   part_is : (received receiver frame).part ≡ part
 
 brings_by : (receiver : Receiver) (frame : TmParts) (part left : List ℕ) (packets : List (List ℕ))
-    → (counted receiver.expected frame.channel_count receiver.part).part ≡ part → packets_in (counted receiver.expected frame.channel_count receiver.part).given ≡ []
+    → (counted receiver.expected frame.channel_count receiver.part).part ≡ part
+    → packets_in (counted receiver.expected frame.channel_count receiver.part).given ≡ []
     → looked_at frame.status frame.content part ≡ record { given = map packet packets; part = left } → Brings receiver frame packets left
 brings_by receiver frame part left packets e silent looked =
     let count : Received = counted receiver.expected frame.channel_count receiver.part in
@@ -177,7 +183,8 @@ expect_none size came ok at s e f =
     ap (λ l. expect_of size came ok at s.part l s.rest) e ∙ ap (λ l. that_came size came at l) f
 
 -- what a receiver knows at the end of a list
-behind_of : (receiver : Receiver) (count lost : ℕ) (ok : Bool) (part : List ℕ) → part ≡ [] → Before receiver count lost ok part → Behind receiver count lost
+behind_of : (receiver : Receiver) (count lost : ℕ) (ok : Bool) (part : List ℕ) → part ≡ [] → Before receiver count lost ok part
+    → Behind receiver count lost
 behind_of receiver count lost ok part e (follows none is expects) = at_rest (is ∙ ap (live ok) e ∙ live_none ok)
 behind_of receiver count lost ok part e (empty is none) = at_rest is
 behind_of receiver count lost ok part e (stale expected some no_more expects small late) = missing expected some expects small late
@@ -208,12 +215,14 @@ losses profile sender word all came (true ∷ flags) i lost ok s receiver f e fe
     let frame : TmParts = carrying profile sender word (concat all) (starts 0 all) i in
     let frames : List TmParts = kept flags (map (carrying profile sender word (concat all) (starts 0 all)) (range_with_len (i + 1) (length flags))) in
     let brings =
-    frame_comes profile sender word all (suc (length flags)) i s receiver ok f t (arrives receiver (sender.channel_count + i) lost ok s.part few.0 before) in
+    frame_comes profile sender word all (suc (length flags)) i s receiver ok f t
+    (arrives receiver (sender.channel_count + i) lost ok s.part few.0 before) in
     let counts : ((sender.channel_count + i) % 2 ^ 8 + 1) % 2 ^ 8 ≡ (sender.channel_count + (i + 1)) % 2 ^ 8 = omega arith in
     let count : sender.channel_count + (i + 1) + length flags ≡ sender.channel_count + i + suc (length flags) = omega arith in
     let turn : i * size + size ≡ (i + 1) * size = omega arith in
     let more =
-    losses profile sender word all came flags (i + 1) 0 (t.over || ok) t.next (received_to receiver frame) (stands_on profile all (length flags) i s f t)
+    losses profile sender word all came flags (i + 1) 0 (t.over || ok) t.next (received_to receiver frame)
+    (stands_on profile all (length flags) i s f t)
     (flags_on came i true flags e) few.1 (follows refl brings.part_is (ap (λ (n : ℕ). Some n) counts)) in
     record {
       packets_are =
@@ -246,7 +255,8 @@ losses profile sender word all came (false ∷ flags) i lost ok s receiver f e f
 
 -- ---- a list of packets
 
-losses_filled : (profile : Profile) (sender : TmSender) (word : ℕ) (first : List ℕ) (packets : List (List ℕ)) (receiver : Receiver) (lost : ℕ) (came : List Bool)
+losses_filled : (profile : Profile) (sender : TmSender) (word : ℕ) (first : List ℕ) (packets : List (List ℕ)) (receiver : Receiver) (lost : ℕ)
+    (came : List Bool)
     → AllByRecursion IsPacket (first ∷ packets) → Behind receiver sender.channel_count lost
     → length came ≡ length (frames_of profile sender word (first ∷ packets)) → FewLost lost came
     → LossesShow profile sender word (first ∷ packets) receiver lost came
@@ -255,11 +265,13 @@ losses_filled profile sender word first packets receiver lost came all behind lo
     let sent : List (List ℕ) = filled size (first ∷ packets) in
     let turn : ℕ → TmParts = carrying profile sender word (concat sent) (starts 0 sent) in
     let filled_up = fills profile (first ∷ packets) all in
-    let turns : length (frames_of profile sender word (first ∷ packets)) ≡ length (concat sent) / size = length-map-range_with_len turn 0 (length (concat sent) / size) in
+    let turns : length (frames_of profile sender word (first ∷ packets)) ≡ length (concat sent) / size =
+    length-map-range_with_len turn 0 (length (concat sent) / size) in
     let count : length came ≡ length (concat sent) / size = long ∙ turns in
     let start : 0 * size ≡ 0 = omega arith in
     let first_count : sender.channel_count ≡ sender.channel_count + 0 = omega arith in
-    let last_count : sender.channel_count + 0 + length came ≡ sender.channel_count + length (frames_of profile sender word (first ∷ packets)) = omega arith in
+    let last_count : sender.channel_count + 0 + length came ≡ sender.channel_count + length (frames_of profile sender word (first ∷ packets)) =
+    omega arith in
     let shown =
     losses profile sender word sent came came 0 lost false (between sent) receiver
     (stands_first profile sent (length came) filled_up.whole (filled_up.left ∙ ap (λ k. k * size) (sym count))) refl few
@@ -270,8 +282,10 @@ losses_filled profile sender word first packets receiver lost came all behind lo
           ∙ shown.packets_are
           ∙ ap (λ k. that_came size came k sent) start;
       ready =
-          subst (λ (k : ℕ). Behind (run receiver (kept came (map turn (range_with_len 0 k)))).receiver (sender.channel_count + length (frames_of profile sender word (first ∷ packets))) (lost_after lost came)) count
-          (subst (λ (k : ℕ). Behind (run receiver (kept came (map turn (range_with_len 0 (length came))))).receiver k (lost_after lost came)) last_count shown.ready);
+          subst (λ (k : ℕ). Behind (run receiver (kept came (map turn (range_with_len 0 k)))).receiver
+          (sender.channel_count + length (frames_of profile sender word (first ∷ packets))) (lost_after lost came)) count
+          (subst (λ (k : ℕ). Behind (run receiver (kept came (map turn (range_with_len 0 (length came))))).receiver k (lost_after lost came))
+          last_count shown.ready);
     }
 
 kept_none : (flags : List Bool) → kept flags [] ≡ []

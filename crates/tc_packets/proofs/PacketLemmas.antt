@@ -1,5 +1,6 @@
 -- Telecommand packets: their parts from the octets, and the octets from their parts.
-use Rattle.std.proofs.Common.{◌≡◌, ℕ, suc, Bool, false, ◌+◌, ◌-◌, ◌*◌, ◌/◌, ◌%◌, ◌^◌, ◌<◌, ◌≤◌, true, List, [], ◌∷◌, ◌++◌, take, drop, length, get_or, refl, sym, ap, ◌∙◌, subst, arith}
+use Rattle.std.proofs.Common.{◌≡◌, ℕ, suc, Bool, false, ◌+◌, ◌-◌, ◌*◌, ◌/◌, ◌%◌, ◌^◌, ◌<◌, ◌≤◌, true, List, [], ◌∷◌, ◌++◌, take, drop, length, get_or}
+use Rattle.std.proofs.Common.{refl, sym, ap, ◌∙◌, subst, arith}
 use Rattle.std.specs.Prelude.{◌≢◌, IsTrue}
 use Rattle.std.proofs.lemmas.List.{take_at, length-append, length-take, length-drop}
 use Rattle.tc_types.specs.declared.requests.Ack.{Ack}
@@ -35,7 +36,11 @@ pub record Parts (profile : Profile) (octets : List ℕ) (identity : Identity) (
 pub packet_length : (profile : Profile) (identity : Identity) (ack : Ack) (service subtype : ℕ) (application : List ℕ)
     → length (packet_of profile identity ack service subtype application) ≡ 13 + length application
 packet_length profile identity ack service subtype application =
-    omega (arith, length-append (front_of profile identity ack service subtype application) (pair (crc_of (front_of profile identity ack service subtype application))))
+    omega (
+      arith,
+      length-append (front_of profile identity ack service subtype application)
+          (pair (crc_of (front_of profile identity ack service subtype application))),
+    )
 
 pub parts_there : (profile : Profile) (identity : Identity) (ack : Ack) (service subtype : ℕ) (application : List ℕ)
     → Parts profile (packet_of profile identity ack service subtype application) identity ack service subtype application
@@ -43,19 +48,23 @@ parts_there profile identity ack service subtype application =
     let size = packet_length profile identity ack service subtype application in
     record {
       first =
-          two_are (get_or (packet_of profile identity ack service subtype application) 0 0) (get_or (packet_of profile identity ack service subtype application) 1 0)
+          two_are (get_or (packet_of profile identity ack service subtype application) 0 0)
+          (get_or (packet_of profile identity ack service subtype application) 1 0)
           (0x1800 + identity.apid) refl refl;
       second =
-          two_are (get_or (packet_of profile identity ack service subtype application) 2 0) (get_or (packet_of profile identity ack service subtype application) 3 0)
+          two_are (get_or (packet_of profile identity ack service subtype application) 2 0)
+          (get_or (packet_of profile identity ack service subtype application) 3 0)
           (0xc000 + identity.count) refl refl;
       told =
-          two_are (get_or (packet_of profile identity ack service subtype application) 4 0) (get_or (packet_of profile identity ack service subtype application) 5 0)
+          two_are (get_or (packet_of profile identity ack service subtype application) 4 0)
+          (get_or (packet_of profile identity ack service subtype application) 5 0)
           (7 + length application - 1) refl refl;
       acks = refl;
       serves = refl;
       kind = refl;
       from =
-          two_are (get_or (packet_of profile identity ack service subtype application) 9 0) (get_or (packet_of profile identity ack service subtype application) 10 0)
+          two_are (get_or (packet_of profile identity ack service subtype application) 9 0)
+          (get_or (packet_of profile identity ack service subtype application) 10 0)
           profile.source refl refl;
       carries =
           take_at application (pair (crc_of (front_of profile identity ack service subtype application)))
@@ -67,7 +76,8 @@ parts_there profile identity ack service subtype application =
 pub parts_of_packet : (profile : Profile) (octets : List ℕ) (identity : Identity) (ack : Ack) (service subtype : ℕ) (application : List ℕ)
     → octets ≡ packet_of profile identity ack service subtype application → Parts profile octets identity ack service subtype application
 parts_of_packet profile octets identity ack service subtype application e =
-    subst (λ (l : List ℕ). Parts profile l identity ack service subtype application) (sym e) (parts_there profile identity ack service subtype application)
+    subst (λ (l : List ℕ). Parts profile l identity ack service subtype application) (sym e)
+    (parts_there profile identity ack service subtype application)
 
 flag_small : (flag : Bool) → flag_bit flag ≤ 1
 flag_small true = omega arith
@@ -141,7 +151,8 @@ eleven (a ∷ b ∷ c ∷ d ∷ e ∷ f ∷ g ∷ []) m h k = absurd (omega arit
 eleven (a ∷ b ∷ c ∷ d ∷ e ∷ f ∷ g ∷ i ∷ []) m h k = absurd (omega arith)
 eleven (a ∷ b ∷ c ∷ d ∷ e ∷ f ∷ g ∷ i ∷ j ∷ []) m h k = absurd (omega arith)
 eleven (a ∷ b ∷ c ∷ d ∷ e ∷ f ∷ g ∷ i ∷ j ∷ l ∷ []) m h k = absurd (omega arith)
-eleven (a ∷ b ∷ c ∷ d ∷ e ∷ f ∷ g ∷ i ∷ j ∷ l ∷ n ∷ rest) m h k = ap (λ q. take q (a ∷ b ∷ c ∷ d ∷ e ∷ f ∷ g ∷ i ∷ j ∷ l ∷ n ∷ rest)) (eleven_more m h)
+eleven (a ∷ b ∷ c ∷ d ∷ e ∷ f ∷ g ∷ i ∷ j ∷ l ∷ n ∷ rest) m h k =
+    ap (λ q. take q (a ∷ b ∷ c ∷ d ∷ e ∷ f ∷ g ∷ i ∷ j ∷ l ∷ n ∷ rest)) (eleven_more m h)
 
 high_is : (a b n : ℕ) → b < 2 ^ 8 → a * 256 + b ≡ n → a ≡ n / 256
 high_is a b n h e = omega arith
@@ -170,12 +181,14 @@ pub record Heads (octets : List ℕ) (identity : Identity) (ack : Ack) : Type 0 
   pub acks : ack_bits ack ≡ get_or octets 6 0 % 2 ^ 4
 
 -- octets that pass are the packet of what stands in them
-pub packet_again : (profile : Profile) (octets : List ℕ) (identity : Identity) (ack : Ack) → AreOctets octets → Passes profile octets → Heads octets identity ack
+pub packet_again : (profile : Profile) (octets : List ℕ) (identity : Identity) (ack : Ack) → AreOctets octets → Passes profile octets
+    → Heads octets identity ack
     → octets ≡ packet_of profile identity ack (service_in octets) (subtype_in octets) (data_in octets)
 packet_again profile octets identity ack small passes heads =
     let least = passes.long.least in
     let told = passes.long.told in
-    let size : length (data_in octets) ≡ length octets - 13 = omega (arith, length-take (length octets - 13) (drop 11 octets), length-drop 11 octets) in
+    let size : length (data_in octets) ≡ length octets - 13 =
+    omega (arith, length-take (length octets - 13) (drop 11 octets), length-drop 11 octets) in
     let first = first_again (pair_at octets 0) identity.apid passes.header.request heads.apid in
     let second = second_again (pair_at octets 2) identity.count passes.header.unsegmented heads.count in
     let third : pair_at octets 4 ≡ 7 + length (data_in octets) - 1 = omega arith in
@@ -187,7 +200,8 @@ packet_again profile octets identity ack small passes heads =
     (λ n. get_or octets 0 0 ∷ get_or octets 1 0 ∷ get_or octets 2 0 ∷ get_or octets 3 0 ∷ get_or octets 4 0 ∷ get_or octets 5 0 ∷ get_or octets 6 0
     ∷ get_or octets 7 0 ∷ get_or octets 8 0 ∷ get_or octets 9 0 ∷ get_or octets 10 0 ∷ take n (drop 11 octets))
     rest
-    ∙ eleven_same (get_or octets 0 0) (get_or octets 1 0) (get_or octets 2 0) (get_or octets 3 0) (get_or octets 4 0) (get_or octets 5 0) (get_or octets 6 0)
+    ∙ eleven_same (get_or octets 0 0) (get_or octets 1 0) (get_or octets 2 0) (get_or octets 3 0) (get_or octets 4 0) (get_or octets 5 0)
+    (get_or octets 6 0)
     (get_or octets 7 0) (get_or octets 8 0) (get_or octets 9 0) (get_or octets 10 0)
     ((0x1800 + identity.apid) / 256) ((0x1800 + identity.apid) % 256) ((0xc000 + identity.count) / 256) ((0xc000 + identity.count) % 256)
     ((7 + length (data_in octets) - 1) / 256) ((7 + length (data_in octets) - 1) % 256) (0x20 + ack_bits ack) (service_in octets) (subtype_in octets)

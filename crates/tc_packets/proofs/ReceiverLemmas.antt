@@ -1,5 +1,6 @@
 -- The packets that begin one after the other in octets.
-use Rattle.std.proofs.Common.{◌≡◌, ℕ, zero, suc, ◌+◌, ◌-◌, ◌/◌, ◌%◌, ◌^◌, ◌<◌, ◌≤◌, List, [], ◌∷◌, ◌++◌, take, drop, length, get_or, refl, sym, ap, ◌∙◌, arith, append_assoc, inl, inr}
+use Rattle.std.proofs.Common.{◌≡◌, ℕ, zero, suc, ◌+◌, ◌-◌, ◌/◌, ◌%◌, ◌^◌, ◌<◌, ◌≤◌, List, [], ◌∷◌, ◌++◌, take, drop, length, get_or, refl, sym, ap}
+use Rattle.std.proofs.Common.{◌∙◌, arith, append_assoc, inl, inr}
 use Rattle.std.specs.Prelude.{Bool, true, false, map, not, ◌&&◌, ◌==◌, nat_le, nat_lt, if◌then◌else◌, Option}
 use borrow.Author.Tests.{ltb-false, ltb-true}
 use Rattle.std.proofs.lemmas.Bool.{and_cases, and_parts, cond-true, cond-false, cond_both, cases_lt, le-leb, lt-leb, lt-ltb, or_parts, true≢false}
@@ -7,7 +8,9 @@ use Rattle.std.proofs.lemmas.List.{append-nil, drop-drop, drop_all, length-drop,
 use Rattle.tc_octets.specs.TmFrames.{TmParts}
 use Rattle.tc_packets.specs.declared.packet_readers.Item.{Item}
 use Rattle.tc_packets.specs.declared.packet_readers.Item.TheVariants as item
-use Rattle.tc_packets.specs.Receivers.{IsPart, Received, Receiver, and_then, begun, carried, continued, counted, cut, dropped, ended, from_start, given_of, gap, is_next, is_skipped, looked_at, marked, packet, packet_length, quiet, received, skipped}
+use Rattle.tc_packets.specs.Receivers.{IsPart, Received, Receiver, and_then, begun, carried, continued, counted, cut, dropped, ended, from_start}
+use Rattle.tc_packets.specs.Receivers.{given_of, gap, is_next, is_skipped, looked_at, marked, packet, quiet, received, skipped}
+use Rattle.tc_packets.specs.SpacePackets.{whole_length_in}
 
 passed : (n : ℕ) (octets : List ℕ) → begun n octets ≡ begun 0 (drop n octets)
 unfolding begun
@@ -21,14 +24,14 @@ begun_nil = refl
 
 -- the first packet, and what begins after it
 begun_cons : (octet : ℕ) (octets : List ℕ)
-    → begun 0 (octet ∷ octets) ≡ from_start (octet ∷ octets) (begun 0 (drop (packet_length (octet ∷ octets)) (octet ∷ octets)))
+    → begun 0 (octet ∷ octets) ≡ from_start (octet ∷ octets) (begun 0 (drop (whole_length_in (octet ∷ octets)) (octet ∷ octets)))
 unfolding begun
 begun_cons octet octets =
-    let one : packet_length (octet ∷ octets) ≡ suc (packet_length (octet ∷ octets) - 1) = omega arith in
+    let one : whole_length_in (octet ∷ octets) ≡ suc (whole_length_in (octet ∷ octets) - 1) = omega arith in
     ap (λ r. from_start (octet ∷ octets) r)
-    (passed (packet_length (octet ∷ octets) - 1) octets ∙ sym (ap (λ n. begun 0 (drop n (octet ∷ octets))) one))
+    (passed (whole_length_in (octet ∷ octets) - 1) octets ∙ sym (ap (λ n. begun 0 (drop n (octet ∷ octets))) one))
 
-begun_at : (octets : List ℕ) → 0 < length octets → begun 0 octets ≡ from_start octets (begun 0 (drop (packet_length octets) octets))
+begun_at : (octets : List ℕ) → 0 < length octets → begun 0 octets ≡ from_start octets (begun 0 (drop (whole_length_in octets) octets))
 begun_at [] h = absurd (omega arith)
 begun_at (octet ∷ octets) h = begun_cons octet octets
 
@@ -36,30 +39,35 @@ abbrev cut_off : Received
 cut_off = record { given = cut ∷ []; part = [] }
 
 abbrev later : List ℕ → Received → Received
-later octets rest = if nat_lt (length octets) (packet_length octets) then quiet octets else marked (packet (take (packet_length octets) octets)) rest
+later octets rest = if nat_lt (length octets) (whole_length_in octets) then quiet octets else marked (packet (take (whole_length_in octets) octets))
+    rest
 
 begun_none : (octets : List ℕ) → 0 < length octets → 2 ^ 5 ≤ get_or octets 0 0 → begun 0 octets ≡ cut_off
 begun_none octets h k =
     begun_at octets h
-    ∙ cond-true (nat_le (2 ^ 5) (get_or octets 0 0)) cut_off (later octets (begun 0 (drop (packet_length octets) octets))) (le-leb (2 ^ 5) (get_or octets 0 0) k)
+    ∙ cond-true (nat_le (2 ^ 5) (get_or octets 0 0)) cut_off (later octets (begun 0 (drop (whole_length_in octets) octets)))
+    (le-leb (2 ^ 5) (get_or octets 0 0) k)
 
-begun_one : (octets : List ℕ) → 0 < length octets → get_or octets 0 0 < 2 ^ 5 → begun 0 octets ≡ later octets (begun 0 (drop (packet_length octets) octets))
+begun_one : (octets : List ℕ) → 0 < length octets → get_or octets 0 0 < 2 ^ 5
+    → begun 0 octets ≡ later octets (begun 0 (drop (whole_length_in octets) octets))
 begun_one octets h k =
     begun_at octets h
-    ∙ cond-false (nat_le (2 ^ 5) (get_or octets 0 0)) cut_off (later octets (begun 0 (drop (packet_length octets) octets))) (lt-leb (2 ^ 5) (get_or octets 0 0) k)
+    ∙ cond-false (nat_le (2 ^ 5) (get_or octets 0 0)) cut_off (later octets (begun 0 (drop (whole_length_in octets) octets)))
+    (lt-leb (2 ^ 5) (get_or octets 0 0) k)
 
-pub begun_short : (octets : List ℕ) → 0 < length octets → get_or octets 0 0 < 2 ^ 5 → nat_lt (length octets) (packet_length octets) ≡ true → begun 0 octets ≡ quiet octets
+pub begun_short : (octets : List ℕ) → 0 < length octets → get_or octets 0 0 < 2 ^ 5 → nat_lt (length octets) (whole_length_in octets) ≡ true
+    → begun 0 octets ≡ quiet octets
 begun_short octets h k short =
     begun_one octets h k
-    ∙ cond-true (nat_lt (length octets) (packet_length octets)) (quiet octets)
-    (marked (packet (take (packet_length octets) octets)) (begun 0 (drop (packet_length octets) octets))) short
+    ∙ cond-true (nat_lt (length octets) (whole_length_in octets)) (quiet octets)
+    (marked (packet (take (whole_length_in octets) octets)) (begun 0 (drop (whole_length_in octets) octets))) short
 
-pub begun_whole : (octets : List ℕ) → 0 < length octets → get_or octets 0 0 < 2 ^ 5 → nat_lt (length octets) (packet_length octets) ≡ false
-    → begun 0 octets ≡ marked (packet (take (packet_length octets) octets)) (begun 0 (drop (packet_length octets) octets))
+pub begun_whole : (octets : List ℕ) → 0 < length octets → get_or octets 0 0 < 2 ^ 5 → nat_lt (length octets) (whole_length_in octets) ≡ false
+    → begun 0 octets ≡ marked (packet (take (whole_length_in octets) octets)) (begun 0 (drop (whole_length_in octets) octets))
 begun_whole octets h k whole =
     begun_one octets h k
-    ∙ cond-false (nat_lt (length octets) (packet_length octets)) (quiet octets)
-    (marked (packet (take (packet_length octets) octets)) (begun 0 (drop (packet_length octets) octets))) whole
+    ∙ cond-false (nat_lt (length octets) (whole_length_in octets)) (quiet octets)
+    (marked (packet (take (whole_length_in octets) octets)) (begun 0 (drop (whole_length_in octets) octets))) whole
 
 -- ---- a loop that takes them: what came so far, and what begins from here on, are all
 
@@ -76,7 +84,8 @@ pub record Began {A : Type 0} (octets : List ℕ) (old out : List (Item A)) (lef
 rest_some : (octets : List ℕ) (at : ℕ) → at < length octets → 0 < length (drop at octets)
 rest_some octets at h = omega (arith, length-drop at octets)
 
-begins_to : {A : Type 0} (octets : List ℕ) (at : ℕ) (old out : List (Item A)) (here : Received) → Begins octets at old out → begun 0 (drop at octets) ≡ here
+begins_to : {A : Type 0} (octets : List ℕ) (at : ℕ) (old out : List (Item A)) (here : Received) → Begins octets at old out
+    → begun 0 (drop at octets) ≡ here
     → (map given_of old ++ (begun 0 octets).given ≡ map given_of out ++ here.given) × ((begun 0 octets).part ≡ here.part)
 begins_to octets at old out here h e =
     (h.given ∙ ap (λ (r : Received). map given_of out ++ r.given) e, h.part ∙ ap (λ (r : Received). r.part) e)
@@ -88,18 +97,21 @@ begins_cut octets at old out new h lt high e =
     record { given = ap (map given_of) e ∙ map_push given_of out item.Cut ∙ sym here.0; part = sym here.1 }
 
 pub begins_short : {A : Type 0} (octets : List ℕ) (at : ℕ) (old out : List (Item A)) → Begins octets at old out → at < length octets
-    → get_or (drop at octets) 0 0 < 2 ^ 5 → nat_lt (length (drop at octets)) (packet_length (drop at octets)) ≡ true → Began octets old out (drop at octets)
+    → get_or (drop at octets) 0 0 < 2 ^ 5 → nat_lt (length (drop at octets)) (whole_length_in (drop at octets)) ≡ true
+    → Began octets old out (drop at octets)
 begins_short octets at old out h lt low short =
     let here = begins_to octets at old out (quiet (drop at octets)) h (begun_short (drop at octets) (rest_some octets at lt) low short) in
     record { given = sym (append-nil (map given_of out)) ∙ sym here.0; part = sym here.1 }
 
-pub begins_end : {A : Type 0} (octets : List ℕ) (at : ℕ) (old out : List (Item A)) → Begins octets at old out → length octets ≤ at → Began octets old out []
+pub begins_end : {A : Type 0} (octets : List ℕ) (at : ℕ) (old out : List (Item A)) → Begins octets at old out → length octets ≤ at
+    → Began octets old out []
 begins_end octets at old out h le =
     let here = begins_to octets at old out (quiet []) h (ap (begun 0) (drop_all at octets le) ∙ begun_nil) in
     record { given = sym (append-nil (map given_of out)) ∙ sym here.0; part = sym here.1 }
 
 pub begins_whole : {A : Type 0} (octets : List ℕ) (at size : ℕ) (old out new : List (Item A)) → Begins octets at old out → at < length octets
-    → get_or (drop at octets) 0 0 < 2 ^ 5 → nat_lt (length (drop at octets)) (packet_length (drop at octets)) ≡ false → size ≡ packet_length (drop at octets)
+    → get_or (drop at octets) 0 0 < 2 ^ 5 → nat_lt (length (drop at octets)) (whole_length_in (drop at octets)) ≡ false
+    → size ≡ whole_length_in (drop at octets)
     → map given_of new ≡ map given_of out ++ packet (take size (drop at octets)) ∷ [] → Begins octets (at + size) old new
 begins_whole octets at size old out new h lt low whole told e =
     let rest = drop at octets in
@@ -109,7 +121,7 @@ begins_whole octets at size old out new h lt low whole told e =
     ∙ ap (λ n. marked (packet (take n rest)) (begun 0 (drop n rest))) (sym told)
     ∙ ap (λ l. marked (packet (take size rest)) (begun 0 l)) (drop-drop size at octets) in
     let here = begins_to octets at old out next h on in
-    let fits = ltb-false (length rest) (packet_length rest) whole in
+    let fits = ltb-false (length rest) (whole_length_in rest) whole in
     record {
       bound = omega (arith, length-drop at octets);
       given = here.0
@@ -148,10 +160,11 @@ counted_small expected count part h =
 
 ended_small : (may_go_on : Bool) (octets : List ℕ) → IsPart (ended may_go_on octets).part
 ended_small may_go_on octets =
-    cond_both (length octets == packet_length octets) (record { given = packet octets ∷ []; part = [] })
-    (if may_go_on && nat_lt (length octets) (packet_length octets) then quiet octets else dropped octets) (λ (r : Received). IsPart r.part) (λ e. none_small)
-    (λ e. cond_both (may_go_on && nat_lt (length octets) (packet_length octets)) (quiet octets) (dropped octets) (λ (r : Received). IsPart r.part)
-    (λ f. ltb-true (length octets) (packet_length octets) (and_parts may_go_on (nat_lt (length octets) (packet_length octets)) f).1)
+    cond_both (length octets == whole_length_in octets) (record { given = packet octets ∷ []; part = [] })
+    (if may_go_on && nat_lt (length octets) (whole_length_in octets) then quiet octets else dropped octets) (λ (r : Received). IsPart r.part)
+    (λ e. none_small)
+    (λ e. cond_both (may_go_on && nat_lt (length octets) (whole_length_in octets)) (quiet octets) (dropped octets) (λ (r : Received). IsPart r.part)
+    (λ f. ltb-true (length octets) (whole_length_in octets) (and_parts may_go_on (nat_lt (length octets) (whole_length_in octets)) f).1)
     (λ f. dropped_small octets))
 
 continued_small : (may_go_on : Bool) (part octets : List ℕ) → IsPart (continued may_go_on part octets).part
@@ -164,12 +177,14 @@ unfolding begun
 begun_small passed [] = none_small
 begun_small (suc passed) (octet ∷ octets) = begun_small passed octets
 begun_small zero (octet ∷ octets) =
-    cond_both (nat_le (2 ^ 5) octet) cut_off (later (octet ∷ octets) (begun (packet_length (octet ∷ octets) - 1) octets)) (λ (r : Received). IsPart r.part)
+    cond_both (nat_le (2 ^ 5) octet) cut_off (later (octet ∷ octets) (begun (whole_length_in (octet ∷ octets) - 1) octets))
+    (λ (r : Received). IsPart r.part)
     (λ e. none_small)
-    (λ e. cond_both (nat_lt (length (octet ∷ octets)) (packet_length (octet ∷ octets))) (quiet (octet ∷ octets))
-    (marked (packet (take (packet_length (octet ∷ octets)) (octet ∷ octets))) (begun (packet_length (octet ∷ octets) - 1) octets)) (λ (r : Received). IsPart r.part)
-    (λ f. ltb-true (length (octet ∷ octets)) (packet_length (octet ∷ octets)) f)
-    (λ f. begun_small (packet_length (octet ∷ octets) - 1) octets))
+    (λ e. cond_both (nat_lt (length (octet ∷ octets)) (whole_length_in (octet ∷ octets))) (quiet (octet ∷ octets))
+    (marked (packet (take (whole_length_in (octet ∷ octets)) (octet ∷ octets))) (begun (whole_length_in (octet ∷ octets) - 1) octets))
+    (λ (r : Received). IsPart r.part)
+    (λ f. ltb-true (length (octet ∷ octets)) (whole_length_in (octet ∷ octets)) f)
+    (λ f. begun_small (whole_length_in (octet ∷ octets) - 1) octets))
 
 carried_small : (pointer : ℕ) (content part : List ℕ) → IsPart part → IsPart (carried pointer content part).part
 unfolding carried
@@ -182,7 +197,8 @@ carried_small pointer content part h =
 looked_small : (status : ℕ) (content part : List ℕ) → IsPart part → IsPart (looked_at status content part).part
 unfolding looked_at
 looked_small status content part h =
-    cond_both (is_skipped status (length content)) (marked skipped (dropped part)) (carried (status % 2 ^ 11) content part) (λ (r : Received). IsPart r.part)
+    cond_both (is_skipped status (length content)) (marked skipped (dropped part)) (carried (status % 2 ^ 11) content part)
+    (λ (r : Received). IsPart r.part)
     (λ e. dropped_small part) (λ e. carried_small (status % 2 ^ 11) content part h)
 
 pub received_small : (receiver : Receiver) (frame : TmParts) → IsPart receiver.part → IsPart (received receiver frame).part

@@ -1,5 +1,6 @@
 -- Reports come back, and different ones have different octets.
-use Rattle.std.proofs.Common.{◌≡◌, ℕ, ◌+◌, ◌-◌, ◌*◌, ◌/◌, ◌%◌, ◌^◌, ◌<◌, ◌≤◌, Bool, true, false, List, ◌++◌, take, drop, length, Result, Ok, Err, refl, sym, ap, ◌∙◌, subst, inl, inr, arith}
+use Rattle.std.proofs.Common.{◌≡◌, ℕ, ◌+◌, ◌-◌, ◌*◌, ◌/◌, ◌%◌, ◌^◌, ◌<◌, ◌≤◌, Bool, true, false, List, ◌++◌, take, drop, length, Result, Ok, Err}
+use Rattle.std.proofs.Common.{refl, sym, ap, ◌∙◌, subst, inl, inr, arith}
 use Rattle.std.proofs.lemmas.List.{append_assoc, drop-drop, drop_at, length-append, take_at}
 use Rattle.tc_types.specs.LinkLines.{verification_subtype}
 use Rattle.tc_types.specs.declared.requests.Identity.{Identity}
@@ -10,10 +11,13 @@ use Rattle.tc_octets.specs.Crc.{crc_of}
 use Rattle.tc_octets.specs.CrcLaws.{CrcOfTheWhole}
 use Rattle.tc_octets.specs.declared.profiles.Profile.{Profile}
 use Rattle.tc_octets.proofs.CrcLawLemmas.{from_small}
-use Rattle.tc_packets.specs.SpacePackets.{ReadsPacket, flag_bit, header_of, identification, sequence_bits, sequence_control, space_packet_of, type_bit}
+use Rattle.tc_packets.specs.SpacePackets.{ReadsPacket, flag_bit, header_of, identification, sequence_bits, sequence_control, space_packet_of}
+use Rattle.tc_packets.specs.SpacePackets.{type_bit}
 use Rattle.tc_packets.specs.Times.{IsTime, time_length, time_of}
 use Rattle.tc_packets.specs.Reports.{IsReportable, report_field, report_header, report_of, service_of, source_data, subtype_of}
-use Rattle.tc_packets.specs.ReportReaders.{HandsOn, HasRoom, IsHeader, IsKnown, IsOurs, Judges, destination_in, pus_version_in, service_in, source_data_in, subtype_in, Tells}
+use Rattle.tc_packets.specs.ReportReaders.{HandsOn, HasRoom, IsKnown, IsOurs, Judges, destination_in, pus_version_in, service_in}
+use Rattle.tc_packets.specs.SpacePackets.{IsHeader}
+use Rattle.tc_packets.specs.ReportReaders.{source_data_in, subtype_in, Tells}
 use Rattle.tc_packets.specs.ReportLaws.{ReportsComeBack, ReportsDiffer, Sent, heard_of}
 use Rattle.tc_packets.specs.declared.space_packets.PacketType.{PacketType}
 use Rattle.tc_packets.specs.declared.space_packets.PacketType.TheVariants as types
@@ -227,9 +231,9 @@ handed : (profile : Profile) (count now : ℕ) (t : Told) (packet : Result Space
     → HandsOn profile (report_of profile count now t) packet read
     → read ≡ Ok (heard.Report (heard_of profile (record { count = count; time = now; contents = t })))
 handed profile count now t (Ok packet) read law fits small reported reads hands =
-    let is = packet_is profile count now t packet.header packet.field.now fits small hands.0 reads.1 in
+    let is = packet_is profile count now t packet.header packet.field.now fits small reads.0 reads.2 in
     judged profile count now t packet.header packet.field.now read law fits reported is
-    (whole_there profile count now t packet.field.now is.content) hands.1
+    (whole_there profile count now t packet.field.now is.content) hands
 handed profile count now t (Err space.Length) read law fits small reported reads hands =
     let parts = report_parts profile count now t in
     let size = whole_size profile count now t in

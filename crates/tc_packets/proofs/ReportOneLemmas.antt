@@ -1,5 +1,6 @@
 -- Octets are read as one thing.
-use Rattle.std.proofs.Common.{◌≡◌, ℕ, zero, suc, ◌+◌, ◌<◌, ◌≤◌, Bool, true, false, List, drop, length, Option, Some, None, Result, Ok, Err, refl, sym, ap, ◌∙◌, subst, inl, inr, arith}
+use Rattle.std.proofs.Common.{◌≡◌, ℕ, zero, suc, ◌+◌, ◌<◌, ◌≤◌, Bool, true, false, List, drop, length, Option, Some, None, Result, Ok, Err, refl, sym}
+use Rattle.std.proofs.Common.{ap, ◌∙◌, subst, inl, inr, arith}
 use borrow.Author.Count.{below_more, below_none}
 use Rattle.std.specs.Prelude.{◌≢◌}
 use Rattle.std.proofs.lemmas.Bool.{cases_lt}
@@ -7,8 +8,11 @@ use Rattle.tc_types.specs.declared.requests.Identity.{Identity}
 use Rattle.tc_octets.specs.Bits.{pair_at}
 use Rattle.tc_octets.specs.Crc.{crc_of}
 use Rattle.tc_octets.specs.declared.profiles.Profile.{Profile}
-use Rattle.tc_packets.specs.SpacePackets.{IsWhole, ReadsPacket, flag_bit, identification, sequence_bits, sequence_control, space_packet_of, type_bit, version_in}
-use Rattle.tc_packets.specs.ReportReaders.{HandsOn, HasRoom, IsHeader, IsIdle, IsLong, IsOurs, IsReportHeader, IsSound, Judges, ReadsField, pus_version_in, service_in, source_data_in, subtype_in}
+use Rattle.tc_packets.specs.SpacePackets.{IsWhole, ReadsPacket, flag_bit, identification, sequence_bits, sequence_control, space_packet_of, type_bit}
+use Rattle.tc_packets.specs.SpacePackets.{version_in}
+use Rattle.tc_packets.specs.ReportReaders.{HandsOn, HasRoom, IsIdle, IsLong, IsOurs, IsReportHeader, IsSound, Judges, ReadsField}
+use Rattle.tc_packets.specs.SpacePackets.{IsHeader}
+use Rattle.tc_packets.specs.ReportReaders.{pus_version_in, service_in, source_data_in, subtype_in}
 use Rattle.tc_packets.specs.ReportLaws.{OneReading}
 use Rattle.tc_packets.specs.declared.space_packets.PacketType.{PacketType}
 use Rattle.tc_packets.specs.declared.space_packets.PacketType.TheVariants as types
@@ -264,24 +268,24 @@ handed_one : (profile : Profile) (octets : List ℕ) (p q : Result SpacePacket S
 handed_one profile octets (Ok p) (Ok q) a b p_reads q_reads p_hands q_hands =
     let p_parts = parts_there p.header p.field.now in
     let q_parts = parts_there q.header q.field.now in
-    let same : space_packet_of p.header p.field.now ≡ space_packet_of q.header q.field.now = sym p_reads.1 ∙ q_reads.1 in
+    let same : space_packet_of p.header p.field.now ≡ space_packet_of q.header q.field.now = sym p_reads.2 ∙ q_reads.2 in
     let first : identification p.header ≡ identification q.header = sym p_parts.first ∙ ap (λ (l : List ℕ). pair_at l 0) same ∙ q_parts.first in
     let second : sequence_control p.header ≡ sequence_control q.header =
     sym p_parts.second ∙ ap (λ (l : List ℕ). pair_at l 2) same ∙ q_parts.second in
-    let header = header_same p.header q.header p_hands.0 q_hands.0 first second in
+    let header = header_same p.header q.header p_reads.0 q_reads.0 first second in
     let field : p.field.now ≡ q.field.now = ap (λ (l : List ℕ). drop 6 l) same in
-    let judges = subst (λ (h : PacketHeader). Judges profile octets h p.field.now a) header p_hands.1 in
-    judged_one profile octets q.header q.field.now a b (subst (λ (l : List ℕ). Judges profile octets q.header l a) field judges) q_hands.1
+    let judges = subst (λ (h : PacketHeader). Judges profile octets h p.field.now a) header p_hands in
+    judged_one profile octets q.header q.field.now a b (subst (λ (l : List ℕ). Judges profile octets q.header l a) field judges) q_hands
 handed_one profile octets (Ok p) (Err space.Length) a b p_reads q_reads p_hands q_hands =
-    absurd (q_reads (packet_whole octets p.header p.field.now p_reads.0.least p_reads.1))
+    absurd (q_reads (packet_whole octets p.header p.field.now p_reads.1.least p_reads.2))
 handed_one profile octets (Ok p) (Err space.Version) a b p_reads q_reads p_hands q_hands =
-    absurd (q_reads.1 (packet_version octets p.header p.field.now p_hands.0 p_reads.1))
+    absurd (q_reads.1 (packet_version octets p.header p.field.now p_reads.0 p_reads.2))
 handed_one profile octets (Err space.Length) (Ok q) a b p_reads q_reads p_hands q_hands =
-    absurd (p_reads (packet_whole octets q.header q.field.now q_reads.0.least q_reads.1))
+    absurd (p_reads (packet_whole octets q.header q.field.now q_reads.1.least q_reads.2))
 handed_one profile octets (Err space.Length) (Err space.Length) a b p_reads q_reads p_hands q_hands = p_hands ∙ sym q_hands
 handed_one profile octets (Err space.Length) (Err space.Version) a b p_reads q_reads p_hands q_hands = absurd (p_reads q_reads.0)
 handed_one profile octets (Err space.Version) (Ok q) a b p_reads q_reads p_hands q_hands =
-    absurd (p_reads.1 (packet_version octets q.header q.field.now q_hands.0 q_reads.1))
+    absurd (p_reads.1 (packet_version octets q.header q.field.now q_reads.0 q_reads.2))
 handed_one profile octets (Err space.Version) (Err space.Length) a b p_reads q_reads p_hands q_hands = absurd (q_reads p_reads.0)
 handed_one profile octets (Err space.Version) (Err space.Version) a b p_reads q_reads p_hands q_hands = p_hands ∙ sym q_hands
 

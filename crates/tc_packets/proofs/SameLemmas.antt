@@ -1,5 +1,6 @@
 -- Octets are the packet of one request at most.
-use Rattle.std.proofs.Common.{◌≡◌, ℕ, ◌+◌, ◌*◌, ◌/◌, ◌%◌, ◌^◌, ◌≤◌, Bool, true, false, List, [], ◌∷◌, ◌++◌, take, drop, length, get_or, Some, None, refl, sym, ap, ◌∙◌, subst, arith}
+use Rattle.std.proofs.Common.{◌≡◌, ℕ, ◌+◌, ◌*◌, ◌/◌, ◌%◌, ◌^◌, ◌≤◌, Bool, true, false, List, [], ◌∷◌, ◌++◌, take, drop, length, get_or, Some, None}
+use Rattle.std.proofs.Common.{refl, sym, ap, ◌∙◌, subst, arith}
 use Rattle.std.specs.Prelude.{ℤ, pos, negsuc, Option}
 use Rattle.std.specs.List.{AllByRecursion}
 use Rattle.std.proofs.lemmas.List.{take_at, drop_at, length-append, append-nil, get_or-take}
@@ -63,7 +64,8 @@ offset_same (negsuc m) (negsuc n) x y e =
 -- ---- identities and acknowledgement flags
 
 identity_is : (i j : Identity) → i.apid ≡ j.apid → i.count ≡ j.count → i ≡ j
-identity_is i j apid count = ap (λ n. let made : Identity = record { apid = n; count = i.count } in made) apid ∙ ap (λ n. let made : Identity = record { apid = j.apid; count = n } in made) count
+identity_is i j apid count = ap (λ n. let made : Identity = record { apid = n; count = i.count } in made) apid
+    ∙ ap (λ n. let made : Identity = record { apid = j.apid; count = n } in made) count
 
 flag_same : (a b : Bool) → flag_bit a ≡ flag_bit b → a ≡ b
 flag_same true true e = refl
@@ -111,7 +113,8 @@ pub parts_same : (profile : Profile) (octets : List ℕ) (i j : Identity) (a b :
     → Parts profile octets i a s t d → Parts profile octets j b s1 t1 e → Same i j a b s t s1 t1 d e
 parts_same profile octets i j a b s t s1 t1 d e x y = record {
   identity =
-      identity_is i j (plus_same (pair_at octets 0) i.apid j.apid 0x1800 x.first y.first) (plus_same (pair_at octets 2) i.count j.count 0xc000 x.second y.second);
+      identity_is i j (plus_same (pair_at octets 0) i.apid j.apid 0x1800 x.first y.first)
+      (plus_same (pair_at octets 2) i.count j.count 0xc000 x.second y.second);
   ack = ack_same a b (plus_same (get_or octets 6 0) (ack_bits a) (ack_bits b) 0x20 x.acks y.acks);
   service = sym x.serves ∙ y.serves;
   subtype = sym x.kind ∙ y.kind;
@@ -176,8 +179,10 @@ plain_same profile p q x y service subtype same =
 -- where octets begin with a packet, its length stands in them
 front_told : (octets packet : List ℕ) → 13 ≤ length packet → take (length packet) octets ≡ packet → pair_at octets 4 ≡ pair_at packet 4
 front_told octets packet h e =
-    let fifth : get_or octets 4 0 ≡ get_or packet 4 0 = sym (get_or-take (length packet) octets 4 0 (omega arith)) ∙ ap (λ (l : List ℕ). get_or l 4 0) e in
-    let sixth : get_or octets 5 0 ≡ get_or packet 5 0 = sym (get_or-take (length packet) octets 5 0 (omega arith)) ∙ ap (λ (l : List ℕ). get_or l 5 0) e in
+    let fifth : get_or octets 4 0 ≡ get_or packet 4 0 =
+    sym (get_or-take (length packet) octets 4 0 (omega arith)) ∙ ap (λ (l : List ℕ). get_or l 4 0) e in
+    let sixth : get_or octets 5 0 ≡ get_or packet 5 0 =
+    sym (get_or-take (length packet) octets 5 0 (omega arith)) ∙ ap (λ (l : List ℕ). get_or l 5 0) e in
     omega arith
 
 -- the parts of an activity's packet
@@ -216,11 +221,13 @@ activity_same profile octets a b fa fb x y =
     let other : PartsOfActivity profile (activity_packet_of profile a) b =
     parts_of_packet profile (activity_packet_of profile a) b.identity b.ack b.plain.service b.plain.subtype (plain_data_of b.plain) packets in
     let same =
-    parts_same profile (activity_packet_of profile a) a.identity b.identity a.ack b.ack a.plain.service a.plain.subtype b.plain.service b.plain.subtype
+    parts_same profile (activity_packet_of profile a) a.identity b.identity a.ack b.ack a.plain.service a.plain.subtype b.plain.service
+    b.plain.subtype
     (plain_data_of a.plain) (plain_data_of b.plain) (activity_parts profile a) other in
     let time =
     moment_same profile.epoch a.time b.time fa.timed fb.timed
-    (seconds_same profile (take (time_length profile) octets) (seconds_since profile.epoch a.time) (seconds_since profile.epoch b.time) x.timed y.timed) in
+    (seconds_same profile (take (time_length profile) octets) (seconds_since profile.epoch a.time) (seconds_since profile.epoch b.time) x.timed
+    y.timed) in
     activity_is a b time same.identity same.ack (plain_same profile a.plain b.plain fa.asked fb.asked same.service same.subtype same.application)
 
 -- octets begin with one list of so many activities, after which the same is left
@@ -272,7 +279,8 @@ task_same profile octets (tasks.InsertActivities a) (tasks.InsertActivities b) f
     ap tasks.InsertActivities same.activities
 task_same profile octets (tasks.InsertActivities a) (tasks.Plain q) f g s k x y = absurd (g.service_known.2 (sym s))
 task_same profile octets (tasks.InsertActivities a) other f g s k x y = absurd (omega (arith, k))
-task_same profile octets (tasks.DeleteActivity a) (tasks.DeleteActivity b) f g s k x y = ap (λ it. tasks.DeleteActivity it) (target_same profile a b (sym x ∙ y))
+task_same profile octets (tasks.DeleteActivity a) (tasks.DeleteActivity b) f g s k x y =
+    ap (λ it. tasks.DeleteActivity it) (target_same profile a b (sym x ∙ y))
 task_same profile octets (tasks.DeleteActivity a) (tasks.Plain q) f g s k x y = absurd (g.service_known.2 (sym s))
 task_same profile octets (tasks.DeleteActivity a) other f g s k x y = absurd (omega (arith, k))
 task_same profile octets (tasks.ShiftActivity a m) (tasks.ShiftActivity b n) f g s k x y =

@@ -1,6 +1,7 @@
 -- Frames that carry packets: their lengths, their pointers, and what a loop adds.
-use Rattle.std.proofs.Common.{◌≡◌, ℕ, ◌+◌, ◌-◌, ◌*◌, ◌/◌, ◌<◌, ◌≤◌, Bool, true, false, List, [], ◌∷◌, ◌++◌, Vec, map, take, drop, length, get_or, refl, sym, ap, ◌∙◌, arith, append_assoc}
-use Rattle.std.specs.Prelude.{◌&&◌, nat_le, nat_lt}
+use Rattle.std.proofs.Common.{◌≡◌, ℕ, ◌+◌, ◌-◌, ◌*◌, ◌/◌, ◌<◌, ◌≤◌, Bool, true, false, List, [], ◌∷◌, ◌++◌, Vec, map, take, drop, length, get_or}
+use Rattle.std.proofs.Common.{refl, sym, ap, ◌∙◌, arith, append_assoc}
+use Rattle.std.specs.Prelude.{◌&&◌, ◌==◌, nat_le, nat_lt}
 use Rattle.std.specs.List.{concat, range_with_len}
 use Rattle.std.proofs.Math.Nat.{mul-le-mul_right}
 use Rattle.std.proofs.lemmas.List.FromFn.{map-range_with_len_more}
@@ -41,7 +42,8 @@ concat_push : (packets : List (List ℕ)) (packet : List ℕ) → concat (packet
 concat_push [] packet = append-nil packet
 concat_push (first ∷ packets) packet = ap (λ l. first ++ l) (concat_push packets packet) ∙ sym (append_assoc first (concat packets) packet)
 
-starts_push : (at : ℕ) (packets : List (List ℕ)) (packet : List ℕ) → starts at (packets ++ packet ∷ []) ≡ starts at packets ++ (at + length (concat packets)) ∷ []
+starts_push : (at : ℕ) (packets : List (List ℕ)) (packet : List ℕ)
+    → starts at (packets ++ packet ∷ []) ≡ starts at packets ++ (at + length (concat packets)) ∷ []
 starts_push at [] packet = ap (λ n. n ∷ []) (omega arith)
 starts_push at (first ∷ packets) packet =
     ap (λ l. at ∷ l)
@@ -50,7 +52,8 @@ starts_push at (first ∷ packets) packet =
 
 one_more : {A : Type 0} (packets : List (Vec ℕ A)) (i : ℕ) (packet : Vec ℕ A) → i < length packets → packet ≡ get_or packets i packet
     → map octets_of (take (i + 1) packets) ≡ map octets_of (take i packets) ++ octets_of packet ∷ []
-one_more packets i packet h e = map_more octets_of packets i packet h ∙ ap (λ (v : Vec ℕ _). map octets_of (take i packets) ++ octets_of v ∷ []) (sym e)
+one_more packets i packet h e = map_more octets_of packets i packet h
+    ∙ ap (λ (v : Vec ℕ _). map octets_of (take i packets) ++ octets_of v ∷ []) (sym e)
 
 pub octets_more : {A : Type 0} (packets : List (Vec ℕ A)) (i : ℕ) (packet : Vec ℕ A) (joined : List ℕ) → i < length packets
     → packet ≡ get_or packets i packet → joined ≡ concat (map octets_of (take i packets))
@@ -81,7 +84,8 @@ starts_append at (x ∷ xs) ys =
     (starts_append (at + length x) xs ys
     ∙ ap (λ n. starts (at + length x) xs ++ starts n ys) (omega (arith, length-append x (concat xs))))
 
-pub octets_filled : (packets : List (List ℕ)) (size : ℕ) (joined all : List ℕ) → joined ≡ concat packets → all ≡ joined ++ concat (fill_of size (length joined))
+pub octets_filled : (packets : List (List ℕ)) (size : ℕ) (joined all : List ℕ) → joined ≡ concat packets
+    → all ≡ joined ++ concat (fill_of size (length joined))
     → all ≡ concat (filled size packets)
 octets_filled packets size joined all e f =
     f
@@ -106,11 +110,13 @@ is_in begin size start = nat_le begin start && nat_lt start (begin + size)
 pub pointer_first : (begin size start : ℕ) (more : List ℕ) → is_in begin size start ≡ true → pointer_in begin size (start ∷ more) ≡ start - begin
 pointer_first begin size start more e = cond-true (is_in begin size start) (start - begin) (pointer_in begin size more) e
 
-pub pointer_next : (begin size start : ℕ) (more : List ℕ) → is_in begin size start ≡ false → pointer_in begin size (start ∷ more) ≡ pointer_in begin size more
+pub pointer_next : (begin size start : ℕ) (more : List ℕ) → is_in begin size start ≡ false
+    → pointer_in begin size (start ∷ more) ≡ pointer_in begin size more
 pointer_next begin size start more e = cond-false (is_in begin size start) (start - begin) (pointer_in begin size more) e
 
 pub is_inside : (begin size start : ℕ) → begin ≤ start → start < begin + size → is_in begin size start ≡ true
-is_inside begin size start low high = and_from (nat_le begin start) (nat_lt start (begin + size)) (le-leb begin start low) (lt-ltb start (begin + size) high)
+is_inside begin size start low high = and_from (nat_le begin start) (nat_lt start (begin + size)) (le-leb begin start low)
+    (lt-ltb start (begin + size) high)
 
 pub is_before : (begin size start : ℕ) → start < begin → is_in begin size start ≡ false
 is_before begin size start h = and_left (nat_le begin start) (nat_lt start (begin + size)) (lt-leb begin start h)
@@ -118,24 +124,24 @@ is_before begin size start h = and_left (nat_le begin start) (nat_lt start (begi
 pub is_behind : (begin size start : ℕ) → begin + size ≤ start → is_in begin size start ≡ false
 is_behind begin size start h = and_right (nat_le begin start) (nat_lt start (begin + size)) (le-ltb start (begin + size) h)
 
-pub pointer_here : (places : List ℕ) (begin size at : ℕ) → pointer_in begin size places ≡ pointer_in begin size (drop at places) → at < length places
+pub here : (places : List ℕ) (begin size at : ℕ) → pointer_in begin size places ≡ pointer_in begin size (drop at places) → at < length places
     → begin ≤ get_or places at 0 → get_or places at 0 < begin + size → get_or places at 0 - begin ≡ pointer_in begin size places
-pointer_here places begin size at same h low high =
+here places begin size at same h low high =
     sym
     (same
     ∙ at_drop_more (pointer_in begin size) places at 0 h
     ∙ pointer_first begin size (get_or places at 0) (drop (at + 1) places) (is_inside begin size (get_or places at 0) low high))
 
-pub pointer_before : (places : List ℕ) (begin size at : ℕ) → pointer_in begin size places ≡ pointer_in begin size (drop at places) → at < length places
+pub before : (places : List ℕ) (begin size at : ℕ) → pointer_in begin size places ≡ pointer_in begin size (drop at places) → at < length places
     → get_or places at 0 < begin → pointer_in begin size places ≡ pointer_in begin size (drop (at + 1) places)
-pointer_before places begin size at same h low =
+before places begin size at same h low =
     same
     ∙ at_drop_more (pointer_in begin size) places at 0 h
     ∙ pointer_next begin size (get_or places at 0) (drop (at + 1) places) (is_before begin size (get_or places at 0) low)
 
-pub pointer_behind : (places : List ℕ) (begin size at : ℕ) → pointer_in begin size places ≡ pointer_in begin size (drop at places) → at < length places
+pub after : (places : List ℕ) (begin size at : ℕ) → pointer_in begin size places ≡ pointer_in begin size (drop at places) → at < length places
     → begin + size ≤ get_or places at 0 → pointer_in begin size places ≡ pointer_in begin size (drop (at + 1) places)
-pointer_behind places begin size at same h high =
+after places begin size at same h high =
     same
     ∙ at_drop_more (pointer_in begin size) places at 0 h
     ∙ pointer_next begin size (get_or places at 0) (drop (at + 1) places) (is_behind begin size (get_or places at 0) high)
@@ -156,10 +162,12 @@ frame_same profile sender word count pointer other content more e f =
 -- the frame of a turn
 pub turn_is : (profile : Profile) (sender : TmSender) (word count pointer size : ℕ) (octets places : List ℕ) → size ≡ data_length profile
     → pointer ≡ pointer_in (count * size) size places
-    → frame_after profile sender word count pointer (take (count * size + size - count * size) (drop (count * size) octets)) ≡ carrying profile sender word octets places count
+    → frame_after profile sender word count pointer (take (count * size + size - count * size) (drop (count * size) octets))
+    ≡ carrying profile sender word octets places count
 turn_is profile sender word count pointer size octets places e f =
     let left : count * size + size - count * size ≡ size = omega arith in
-    frame_same profile sender word count pointer (pointer_in (count * size) size places) (take (count * size + size - count * size) (drop (count * size) octets))
+    frame_same profile sender word count pointer (pointer_in (count * size) size places)
+    (take (count * size + size - count * size) (drop (count * size) octets))
     (take size (drop (count * size) octets)) f (ap (λ n. take n (drop (count * size) octets)) left)
     ∙ ap (λ n. frame_after profile sender word count (pointer_in (count * n) n places) (take n (drop (count * n) octets))) e
 
@@ -182,3 +190,11 @@ some_frames profile sender word [] octets places h e f = absurd (omega arith)
 some_frames profile sender word (packet ∷ packets) octets places h e f =
     ap (λ l. carriers profile sender word l places) e
     ∙ ap (λ l. carriers profile sender word (concat (filled (data_length profile) (packet ∷ packets))) l) f
+
+-- the frames of one packet or more
+pub frames_there : {A : Type 0} (profile : Profile) (sender : TmSender) (word size : ℕ) (packets : List (Vec ℕ A)) (octets places : List ℕ)
+    → (length packets == 0) ≡ false → size ≡ data_length profile → octets ≡ concat (filled size (map octets_of packets))
+    → places ≡ starts 0 (filled size (map octets_of packets))
+    → carriers profile sender word octets places ≡ frames_of profile sender word (map octets_of packets)
+frames_there profile sender word size [] octets places none field o p = absurd (cc)
+frames_there profile sender word size (packet ∷ packets) octets places some field o p = rw o (rw p (rw field refl))

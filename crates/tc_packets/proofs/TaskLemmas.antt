@@ -1,5 +1,6 @@
 -- What the application data of a telecommand are read as.
-use Rattle.std.proofs.Common.{◌≡◌, ℕ, ◌-◌, ◌/◌, ◌%◌, ◌<◌, ◌≤◌, Bool, true, false, List, [], ◌∷◌, ◌++◌, take, drop, length, get_or, Some, None, Err, sym, ap, ◌∙◌, subst, arith}
+use Rattle.std.proofs.Common.{◌≡◌, ℕ, ◌-◌, ◌/◌, ◌%◌, ◌<◌, ◌≤◌, Bool, true, false, List, [], ◌∷◌, ◌++◌, take, drop, length, get_or, Some, None, Err}
+use Rattle.std.proofs.Common.{sym, ap, ◌∙◌, subst, arith}
 use Rattle.std.specs.Prelude.{◌≢◌, Option}
 use Rattle.std.specs.List.{AllByRecursion}
 use Rattle.std.proofs.lemmas.List.{take_at, drop_at, take-append-drop, length-append, length-take}
@@ -18,7 +19,8 @@ use Rattle.tc_packets.specs.Outcomes.{outcome_octets_of}
 use Rattle.tc_packets.specs.ApplicationData.{most_data}
 use Rattle.tc_packets.specs.Flights.{FitsActivity}
 use Rattle.tc_packets.specs.Telecommands.{packet_of, service_of, target_of}
-use Rattle.tc_packets.specs.TelecommandReaders.{HasActivities, HeadersSay, IsBare, IsTelecommand, Passes, Reads, ReadsParts, ReadsPlain, ReadsTarget, ReadsTask, data_in, service_in, subtype_in}
+use Rattle.tc_packets.specs.TelecommandReaders.{HasActivities, HeadersSay, IsBare, IsTelecommand, Passes, Reads, ReadsParts, ReadsPlain, ReadsTarget}
+use Rattle.tc_packets.specs.TelecommandReaders.{ReadsTask, data_in, service_in, subtype_in}
 use Rattle.tc_packets.specs.declared.flights.FlightActivity.{FlightActivity}
 use Rattle.tc_packets.specs.declared.flights.FlightTask.{FlightTask}
 use Rattle.tc_packets.specs.declared.flights.FlightTask.TheVariants as tasks
@@ -30,14 +32,16 @@ use Rattle.tc_packets.proofs.SameLemmas.{flight_parts}
 
 -- ---- whole packets
 
-pub header_err : (profile : Profile) (octets : List ℕ) (fault : PacketFault) → HeadersSay profile octets (Some fault) → Reads profile octets (Err fault)
+pub header_err : (profile : Profile) (octets : List ℕ) (fault : PacketFault) → HeadersSay profile octets (Some fault)
+    → Reads profile octets (Err fault)
 header_err profile octets faults.Length h = h
 header_err profile octets faults.Check h = h
 header_err profile octets faults.Header h = h
 header_err profile octets faults.Subtype h = h
 header_err profile octets faults.Data h = absurd h
 
-pub heads_fly : (profile : Profile) (octets : List ℕ) (identity : Identity) (ack : Ack) → Passes profile octets → Heads octets identity ack → Flies identity
+pub heads_fly : (profile : Profile) (octets : List ℕ) (identity : Identity) (ack : Ack) → Passes profile octets → Heads octets identity ack
+    → Flies identity
 heads_fly profile octets identity ack passes heads =
     let apid = heads.apid in
     let count = heads.count in
@@ -56,7 +60,8 @@ read_ok profile octets identity ack task small passes heads says = record {
       ∙ ap (λ n. packet_of profile identity ack (service_of task) n (data_in octets)) (sym says.2);
 }
 
-pub read_err : (profile : Profile) (octets : List ℕ) → Passes profile octets → ReadsTask profile (service_in octets) (subtype_in octets) (data_in octets) None
+pub read_err : (profile : Profile) (octets : List ℕ) → Passes profile octets
+    → ReadsTask profile (service_in octets) (subtype_in octets) (data_in octets) None
     → Reads profile octets (Err faults.Data)
 read_err profile octets passes none = (
   passes,

@@ -1,16 +1,20 @@
 -- What one frame of a sender brings a receiver that follows it.
-use Rattle.std.proofs.Common.{◌≡◌, ℕ, ◌+◌, ◌-◌, ◌*◌, ◌^◌, ◌<◌, ◌≤◌, Bool, true, false, List, [], ◌∷◌, ◌++◌, map, take, drop, length, get_or, refl, sym, ap, subst, ◌∙◌, inl, inr, arith, append_assoc}
+use Rattle.std.proofs.Common.{◌≡◌, ℕ, ◌+◌, ◌-◌, ◌*◌, ◌^◌, ◌<◌, ◌≤◌, Bool, true, false, List, [], ◌∷◌, ◌++◌, map, take, drop, length, get_or, refl}
+use Rattle.std.proofs.Common.{sym, ap, subst, ◌∙◌, inl, inr, arith, append_assoc}
 use Rattle.std.specs.Prelude.{◌&&◌, ◌||◌}
 use Rattle.std.specs.List.{AllByRecursion, concat}
 use Rattle.std.proofs.lemmas.Bool.{cases_lt}
-use Rattle.std.proofs.lemmas.List.{drop-append-le, drop_at, length-append, length-drop, length-take-le, nil_from_length, take-append-le, take_at, take-append-drop}
+use Rattle.std.proofs.lemmas.List.{drop-append-le, drop_at, length-append, length-drop, length-take-le, nil_from_length, take-append-le, take_at}
+use Rattle.std.proofs.lemmas.List.{take-append-drop}
 use Rattle.tc_packets.specs.Carriers.{pointer_in, starts}
 use Rattle.tc_packets.specs.CarrierLaws.{IsPacket}
 use Rattle.tc_packets.specs.LossLaws.{all_came, cons_if, that_came}
-use Rattle.tc_packets.specs.Receivers.{Received, and_then, begun, continued, looked_at, packet, packet_length}
+use Rattle.tc_packets.specs.Receivers.{Received, and_then, begun, continued, looked_at, packet}
+use Rattle.tc_packets.specs.SpacePackets.{whole_length_in}
 use Rattle.tc_packets.proofs.CameLemmas.{all_inside, came_on, chosen, cons_came, cons_lost, expect_within, live, lost_on, none_inside}
 use Rattle.tc_packets.proofs.SenderLemmas.{is_behind, is_inside, pointer_first, pointer_next}
-use Rattle.tc_packets.proofs.CutLemmas.{IsStanding, Standing, between, continued_none, continued_some, cuts, drop_past, ended_on, ended_whole, expect, front_short, looked_on, looked_start, pending, pending_none, pending_within, standing_between, take_past}
+use Rattle.tc_packets.proofs.CutLemmas.{IsStanding, Standing, between, continued_none, continued_some, cuts, drop_past, ended_on, ended_whole, expect}
+use Rattle.tc_packets.proofs.CutLemmas.{front_short, looked_on, looked_start, pending, pending_none, pending_within, standing_between, take_past}
 
 -- ---- a frame's turn: so many octets from a place on
 
@@ -56,7 +60,8 @@ turns_between size at packets all some le =
     let content : List ℕ = take size (concat packets) in
     let long = length-take-le size (concat packets) le in
     let pointer : pointer_in at size (starts (at + length {A = ℕ} []) packets) ≡ 0 = pointer_there at size 0 packets some (omega arith) in
-    let all_of : looked_at (3 * 2 ^ 11 + pointer_in at size (starts (at + length {A = ℕ} []) packets)) content [] ≡ record { given = map packet c.whole; part = c.next.part } =
+    let all_of : looked_at (3 * 2 ^ 11 + pointer_in at size (starts (at + length {A = ℕ} []) packets)) content []
+    ≡ record { given = map packet c.whole; part = c.next.part } =
     ap (λ n. looked_at (3 * 2 ^ 11 + n) content []) pointer
     ∙ looked_start 0 content [] (omega arith) (omega arith)
     ∙ ap (λ r. and_then r (λ _. begun 0 (drop 0 content))) (continued_none false (take 0 content))
@@ -79,7 +84,8 @@ turns_between size at packets all some le =
     }
 
 -- a packet in progress ends before the frame does
-turns_over : (size at : ℕ) (part todo : List ℕ) (packets : List (List ℕ)) → IsPacket (part ++ todo) → AllByRecursion IsPacket packets → 0 < length part
+turns_over : (size at : ℕ) (part todo : List ℕ) (packets : List (List ℕ)) → IsPacket (part ++ todo) → AllByRecursion IsPacket packets
+    → 0 < length part
     → 0 < length todo → length todo < size → size ≤ 2046 → size ≤ length todo + length (concat packets)
     → Turns size at (record { part = part; todo = todo; rest = packets })
 turns_over size at part todo packets one all begun_part some lt few le =
@@ -99,7 +105,8 @@ turns_over size at part todo packets one all begun_part some lt few le =
       stream = drop_past todo (concat packets) size n split ∙ c.stream;
       pointers = λ begin wide h. c.pointers begin wide (omega arith) ∙ ap (λ k. pointer_in begin wide (starts k c.next.rest)) there;
       received =
-          ap (λ k. looked_at (3 * 2 ^ 11 + k) (take size (todo ++ concat packets)) part) (pointer_there at size (length todo) packets lt (omega arith))
+          ap (λ k. looked_at (3 * 2 ^ 11 + k) (take size (todo ++ concat packets)) part)
+          (pointer_there at size (length todo) packets lt (omega arith))
           ∙ ap (λ l. looked_at (3 * 2 ^ 11 + length todo) l part) (take_past todo (concat packets) size n split)
           ∙ looked_start (length todo) (todo ++ x) part (omega arith) (omega arith)
           ∙ ap (λ l. and_then (continued false part l) (λ _. begun 0 (drop (length todo) (todo ++ x)))) (take_at todo x (length todo) refl)
@@ -119,20 +126,23 @@ turns_over size at part todo packets one all begun_part some lt few le =
           ∙ c.begun;
       came = λ came i ok e b.
           expect_within size came ok at part todo packets some
-          ∙ ap (λ y. cons_if (ok && y) (part ++ todo) (that_came size came (at + length todo) packets)) (all_inside size came i at (length todo) (omega arith) (omega arith) b)
+          ∙ ap (λ y. cons_if (ok && y) (part ++ todo) (that_came size came (at + length todo) packets))
+          (all_inside size came i at (length todo) (omega arith) (omega arith) b)
           ∙ ap (λ l. cons_if (ok && true) (part ++ todo) l)
           (c.came size came i (omega arith) (omega arith) b ∙ ap (λ k. c.whole ++ expect size came true k c.next) ends)
           ∙ cons_came ok (part ++ todo) c.whole (expect size came true (at + size) c.next);
       lost = λ came i ok e b.
           expect_within size came ok at part todo packets some
-          ∙ ap (λ y. cons_if (ok && y) (part ++ todo) (that_came size came (at + length todo) packets)) (none_inside size came i at (length todo) some (omega arith) (omega arith) b)
+          ∙ ap (λ y. cons_if (ok && y) (part ++ todo) (that_came size came (at + length todo) packets))
+          (none_inside size came i at (length todo) some (omega arith) (omega arith) b)
           ∙ cons_lost ok (part ++ todo) (that_came size came (at + length todo) packets)
           ∙ c.lost size came i (omega arith) (omega arith) b
           ∙ ap (λ k. expect size came false k c.next) ends;
     }
 
 -- it ends with the frame
-turns_even : (size at : ℕ) (part todo : List ℕ) (packets : List (List ℕ)) → IsPacket (part ++ todo) → 0 < length part → 0 < length todo → length todo ≡ size
+turns_even : (size at : ℕ) (part todo : List ℕ) (packets : List (List ℕ)) → IsPacket (part ++ todo) → 0 < length part → 0 < length todo
+    → length todo ≡ size
     → Turns size at (record { part = part; todo = todo; rest = packets })
 turns_even size at part todo packets one begun_part some e =
     let there : at + length todo ≡ at + size + length {A = ℕ} [] = omega arith in
@@ -145,7 +155,8 @@ turns_even size at part todo packets one begun_part some e =
       stream = drop_at todo (concat packets) size e;
       pointers = λ begin wide h. ap (λ k. pointer_in begin wide (starts k packets)) there;
       received =
-          ap (λ k. looked_at (3 * 2 ^ 11 + k) (take size (todo ++ concat packets)) part) (pointer_none at size (at + length todo) packets (omega arith))
+          ap (λ k. looked_at (3 * 2 ^ 11 + k) (take size (todo ++ concat packets)) part)
+          (pointer_none at size (at + length todo) packets (omega arith))
           ∙ ap (λ l. looked_at (3 * 2 ^ 11 + 2047) l part) (take_at todo (concat packets) size e)
           ∙ looked_on todo part
           ∙ continued_some true part todo begun_part
@@ -160,12 +171,14 @@ turns_even size at part todo packets one begun_part some e =
           ∙ continued_none true (take size (todo ++ concat packets));
       came = λ came i ok same b.
           expect_within size came ok at part todo packets some
-          ∙ ap (λ y. cons_if (ok && y) (part ++ todo) (that_came size came (at + length todo) packets)) (all_inside size came i at (length todo) (omega arith) (omega arith) b)
+          ∙ ap (λ y. cons_if (ok && y) (part ++ todo) (that_came size came (at + length todo) packets))
+          (all_inside size came i at (length todo) (omega arith) (omega arith) b)
           ∙ ap (λ k. cons_if (ok && true) (part ++ todo) (that_came size came k packets)) ends
           ∙ cons_came ok (part ++ todo) [] (that_came size came (at + size) packets);
       lost = λ came i ok same b.
           expect_within size came ok at part todo packets some
-          ∙ ap (λ y. cons_if (ok && y) (part ++ todo) (that_came size came (at + length todo) packets)) (none_inside size came i at (length todo) some (omega arith) (omega arith) b)
+          ∙ ap (λ y. cons_if (ok && y) (part ++ todo) (that_came size came (at + length todo) packets))
+          (none_inside size came i at (length todo) some (omega arith) (omega arith) b)
           ∙ cons_lost ok (part ++ todo) (that_came size came (at + length todo) packets)
           ∙ ap (λ k. that_came size came k packets) ends;
     }
@@ -182,8 +195,8 @@ turns_on size at part todo packets one begun_part some lt =
     let joins : part ++ todo ≡ (part ++ take size todo) ++ drop size todo =
     ap (λ l. part ++ l) (sym (take-append-drop size todo)) ∙ sym (append_assoc part (take size todo) (drop size todo)) in
     let cut_front : take (length part + size) (part ++ todo) ≡ part ++ take size todo = take_past part todo (length part + size) size refl in
-    let short : length (part ++ take size todo) < packet_length (part ++ take size todo) =
-    subst (λ (l : List ℕ). length l < packet_length l) cut_front (front_short (part ++ todo) (length part + size) one.told (omega arith)) in
+    let short : length (part ++ take size todo) < whole_length_in (part ++ take size todo) =
+    subst (λ (l : List ℕ). length l < whole_length_in l) cut_front (front_short (part ++ todo) (length part + size) one.told (omega arith)) in
     record {
       whole = [];
       next = record { part = part ++ take size todo; todo = drop size todo; rest = packets };
@@ -196,7 +209,8 @@ turns_on size at part todo packets one begun_part some lt =
       stream = drop-append-le size todo (concat packets) (omega arith);
       pointers = λ begin wide h. ap (λ k. pointer_in begin wide (starts k packets)) there;
       received =
-          ap (λ k. looked_at (3 * 2 ^ 11 + k) (take size (todo ++ concat packets)) part) (pointer_none at size (at + length todo) packets (omega arith))
+          ap (λ k. looked_at (3 * 2 ^ 11 + k) (take size (todo ++ concat packets)) part)
+          (pointer_none at size (at + length todo) packets (omega arith))
           ∙ ap (λ l. looked_at (3 * 2 ^ 11 + 2047) l part) (take-append-le size todo (concat packets) (omega arith))
           ∙ looked_on (take size todo) part
           ∙ continued_some true part (take size todo) begun_part
@@ -213,8 +227,10 @@ turns_on size at part todo packets one begun_part some lt =
           expect_within size came ok at part todo packets (omega arith)
           ∙ ap (λ y. cons_if (ok && y) (part ++ todo) (that_came size came (at + length todo) packets))
           (came_on size came i at size (length (drop size todo)) (length todo) (omega arith) (omega arith) (omega arith) b)
-          ∙ ap (λ l. cons_if (ok && all_came size came (at + size) (length (drop size todo))) l (that_came size came (at + length todo) packets)) joins
-          ∙ ap (λ k. cons_if (ok && all_came size came (at + size) (length (drop size todo))) ((part ++ take size todo) ++ drop size todo) (that_came size came k packets)) there
+          ∙ ap (λ l. cons_if (ok && all_came size came (at + size) (length (drop size todo))) l (that_came size came (at + length todo) packets))
+          joins
+          ∙ ap (λ k. cons_if (ok && all_came size came (at + size) (length (drop size todo))) ((part ++ take size todo) ++ drop size todo)
+          (that_came size came k packets)) there
           ∙ sym (expect_within size came ok (at + size) (part ++ take size todo) (drop size todo) packets (omega arith));
       lost = λ came i ok e b.
           expect_within size came ok at part todo packets (omega arith)

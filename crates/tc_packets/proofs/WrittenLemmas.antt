@@ -6,8 +6,10 @@ use Rattle.tc_octets.specs.declared.profiles.Profile.{Profile}
 use Rattle.tc_packets.specs.OctetFields.{quad}
 use Rattle.tc_packets.specs.Times.{HasSeconds, complement, fraction, fraction_length, offset_of, seconds_since, time_length, time_of}
 use Rattle.tc_packets.specs.Flights.{Fits, FitsTask}
-use Rattle.tc_packets.specs.Telecommands.{activity_of, activity_packet_of, data_of, packet_of, schedule, service_of, subtype_of, target_of, telecommand_of}
-use Rattle.tc_packets.specs.TelecommandReaders.{BeginsWith, HasActivities, HasData, IsTelecommand, Passes, activity_length, data_in, is_schedule_subtype}
+use Rattle.tc_packets.specs.Telecommands.{activity_of, activity_packet_of, data_of, packet_of, schedule, service_of, subtype_of, target_of}
+use Rattle.tc_packets.specs.Telecommands.{telecommand_of}
+use Rattle.tc_packets.specs.TelecommandReaders.{BeginsWith, HasActivities, HasData, IsTelecommand, Passes, activity_length, data_in}
+use Rattle.tc_packets.specs.TelecommandReaders.{is_schedule_subtype}
 use Rattle.tc_packets.specs.TelecommandLaws.{NothingElseIsRead, TelecommandsComeBack, TelecommandsDiffer}
 use Rattle.tc_packets.specs.declared.flights.FlightActivity.{FlightActivity}
 use Rattle.tc_packets.specs.declared.flights.FlightTask.{FlightTask}
@@ -27,12 +29,15 @@ seconds_there : (profile : Profile) (n : ℕ) → HasSeconds profile (quad n ++ 
 seconds_there profile n = record { size = time_size profile n; whole = refl }
 
 -- seconds before others
-seconds_first : (profile : Profile) (n : ℕ) (others : List ℕ) → HasSeconds profile (take (time_length profile) ((quad n ++ fraction profile.fine) ++ others)) n
+seconds_first : (profile : Profile) (n : ℕ) (others : List ℕ)
+    → HasSeconds profile (take (time_length profile) ((quad n ++ fraction profile.fine) ++ others)) n
 seconds_first profile n others =
-    subst (λ (l : List ℕ). HasSeconds profile l n) (sym (take_at (quad n ++ fraction profile.fine) others (time_length profile) (time_size profile n)))
+    subst (λ (l : List ℕ). HasSeconds profile l n) (sym
+    (take_at (quad n ++ fraction profile.fine) others (time_length profile) (time_size profile n)))
     (seconds_there profile n)
 
-begins_there : (profile : Profile) (activity : FlightActivity) (others : List ℕ) → BeginsWith profile (activity_of profile activity ++ others) activity
+begins_there : (profile : Profile) (activity : FlightActivity) (others : List ℕ)
+    → BeginsWith profile (activity_of profile activity ++ others) activity
 begins_there profile activity others =
     let parted : activity_of profile activity ++ others ≡ time_of profile activity.time ++ (activity_packet_of profile activity ++ others) =
     append_assoc (time_of profile activity.time) (activity_packet_of profile activity) others in
@@ -43,7 +48,8 @@ begins_there profile activity others =
       packet =
           ap (λ l. take (length (activity_packet_of profile activity)) (drop (time_length profile) l)) parted
           ∙ ap (λ l. take (length (activity_packet_of profile activity)) l)
-          (drop_at (time_of profile activity.time) (activity_packet_of profile activity ++ others) (time_length profile) (time_size profile (seconds_since profile.epoch activity.time)))
+          (drop_at (time_of profile activity.time) (activity_packet_of profile activity ++ others) (time_length profile)
+          (time_size profile (seconds_since profile.epoch activity.time)))
           ∙ take_at (activity_packet_of profile activity) others (length (activity_packet_of profile activity)) refl;
     }
 
@@ -52,12 +58,14 @@ activity_size profile activity =
     length-append (time_of profile activity.time) (activity_packet_of profile activity)
     ∙ ap (λ n. n + length (activity_packet_of profile activity)) (time_size profile (seconds_since profile.epoch activity.time))
 
-activities_there : (profile : Profile) (activities : List FlightActivity) → HasActivities profile (flat_map (activity_of profile) activities) activities []
+activities_there : (profile : Profile) (activities : List FlightActivity)
+    → HasActivities profile (flat_map (activity_of profile) activities) activities []
 activities_there profile [] = refl
 activities_there profile (activity ∷ others) = (
   begins_there profile activity (flat_map (activity_of profile) others),
   subst (λ (l : List ℕ). HasActivities profile l others [])
-      (sym (drop_at (activity_of profile activity) (flat_map (activity_of profile) others) (activity_length profile activity) (activity_size profile activity)))
+      (sym (drop_at (activity_of profile activity) (flat_map (activity_of profile) others) (activity_length profile activity)
+      (activity_size profile activity)))
       (activities_there profile others),
 )
 
@@ -139,7 +147,8 @@ telecommands_come_back profile flight (Err faults.Data) fit says = absurd (says.
 
 -- ---- where times have no fraction, nothing else is read
 
-seconds_written : (profile : Profile) (octets : List ℕ) (n : ℕ) → profile.fine ≡ false → HasSeconds profile octets n → octets ≡ quad n ++ fraction profile.fine
+seconds_written : (profile : Profile) (octets : List ℕ) (n : ℕ) → profile.fine ≡ false → HasSeconds profile octets n
+    → octets ≡ quad n ++ fraction profile.fine
 seconds_written profile octets n coarse has =
     let size : length octets ≡ 4 = has.size ∙ ap (λ f. 4 + fraction_length f) coarse in
     sym (take_all 4 octets (omega arith)) ∙ has.whole ∙ ap (λ f. quad n ++ fraction f) (sym coarse)
@@ -156,10 +165,12 @@ activities_written profile octets (activity ∷ others) coarse has =
     ∙ activities_written profile (drop (activity_length profile activity) octets) others coarse has.1) in
     sym (take-append-drop (time_length profile) octets)
     ∙ ap (λ l. l ++ drop (time_length profile) octets) time
-    ∙ ap (λ l. time_of profile activity.time ++ l) (sym (take-append-drop (length (activity_packet_of profile activity)) (drop (time_length profile) octets)) ∙ behind)
+    ∙ ap (λ l. time_of profile activity.time ++ l) (sym
+    (take-append-drop (length (activity_packet_of profile activity)) (drop (time_length profile) octets)) ∙ behind)
     ∙ sym (append_assoc (time_of profile activity.time) (activity_packet_of profile activity) (flat_map (activity_of profile) others))
 
-data_written : (profile : Profile) (octets : List ℕ) (task : FlightTask) → profile.fine ≡ false → HasData profile octets task → octets ≡ data_of profile task
+data_written : (profile : Profile) (octets : List ℕ) (task : FlightTask) → profile.fine ≡ false → HasData profile octets task
+    → octets ≡ data_of profile task
 data_written profile octets (tasks.Plain plain) coarse has = has
 data_written profile octets tasks.EnableSchedule coarse has = has
 data_written profile octets tasks.DisableSchedule coarse has = has

@@ -5,12 +5,13 @@ use Rattle.tc_octets.specs.Bits.{pair_at}
 use Rattle.tc_octets.specs.TmFrames.{TmParts}
 use Rattle.tc_octets.specs.declared.profiles.Profile.{Profile}
 use Rattle.tc_packets.specs.Carriers.{data_length, filled, frames_of}
-use Rattle.tc_packets.specs.Receivers.{Given, IsPart, Receiver, cut, gap, is_next, packet, packet_length, received, received_to, skipped}
+use Rattle.tc_packets.specs.Receivers.{Given, IsPart, Receiver, cut, gap, is_next, packet, received, received_to, skipped}
+use Rattle.tc_packets.specs.SpacePackets.{whole_length_in}
 use Rattle.tc_packets.specs.declared.tm_senders.TmSender.{TmSender}
 
 -- a whole packet: as long as its length field says, of packet version 000
 pub record IsPacket (octets : List ℕ) : Type 0 where
-  pub told : packet_length octets ≡ length octets
+  pub told : whole_length_in octets ≡ length octets
   pub version : slice_index octets 0 < 2 ^ 5
 
 -- what frames give, one after the other, and the receiver after them
@@ -21,7 +22,11 @@ pub record Run : Type 0 where
 abbrev pub run : Receiver → List TmParts → Run
 run receiver [] = record { given = []; receiver = receiver }
 run receiver (frame ∷ frames) =
-    record { given = (received receiver frame).given ++ (run (received_to receiver frame) frames).given; receiver = (run (received_to receiver frame) frames).receiver }
+    record {
+      given = (received receiver frame).given ++ (run (received_to receiver frame) frames).given;
+      receiver =
+          (run (received_to receiver frame) frames).receiver;
+    }
 
 -- a receiver that has no packet in progress, and takes a frame with this count as the next one
 pub record Awaits (receiver : Receiver) (count : ℕ) : Type 0 where
@@ -43,7 +48,8 @@ reports_in (skipped ∷ more) = reports_in more
 -- the packets and their fill came, and nothing else; the receiver awaits the frames of the next list
 pub record ComesBack (profile : Profile) (sender : TmSender) (word : ℕ) (packets : List (List ℕ)) (receiver : Receiver) : Type 0 where
   pub given : (run receiver (frames_of profile sender word packets)).given ≡ map packet (filled (data_length profile) packets)
-  pub awaits : Awaits (run receiver (frames_of profile sender word packets)).receiver ((sender.channel_count + length (frames_of profile sender word packets)) % 2 ^ 8)
+  pub awaits : Awaits (run receiver (frames_of profile sender word packets)).receiver
+      ((sender.channel_count + length (frames_of profile sender word packets)) % 2 ^ 8)
 
 -- A list of packets that is sent comes back, from a receiver that awaits its first frame.
 abbrev pub PacketsComeBack : Type 0

@@ -1,30 +1,28 @@
 -- Packets over telemetry frames (CCSDS 132.0-B, 4.1): the frames that carry a list of packets, each with a first header pointer.
-use Rattle.std.specs.Prelude.{ℕ, Vec, ◌+◌, ◌*◌, ◌-◌, ◌/◌, ◌%◌, ◌^◌, ◌==◌, ◌&&◌, nat_le, nat_lt, if◌then◌else◌, List, [], ◌∷◌, ◌++◌, length, take, drop, map, replicate, Some}
+use Rattle.std.specs.Prelude.{ℕ, Vec, ◌+◌, ◌*◌, ◌-◌, ◌/◌, ◌%◌, ◌^◌, ◌==◌, ◌&&◌, nat_le, nat_lt, if◌then◌else◌, List, [], ◌∷◌, ◌++◌, length, take}
+use Rattle.std.specs.Prelude.{drop, map, replicate, Some}
 use Rattle.std.specs.List.{concat, range_with_len}
-use Rattle.tc_octets.specs.Bits.{pair}
 use Rattle.tc_octets.specs.TcFrames.{check_length}
 use Rattle.tc_octets.specs.TmFrames.{TmParts}
 use Rattle.tc_octets.specs.declared.profiles.Profile.{Profile}
+use Rattle.tc_packets.specs.SpacePackets.{idle_packet_of}
 use Rattle.tc_packets.specs.declared.tm_senders.TmSender.{TmSender}
 
 abbrev pub octets_of : {A : Type 0} → Vec ℕ A → List ℕ
 octets_of octets = octets.items
 
--- an idle packet of so many octets, seven or more (CCSDS 133.0-B, 4.1)
-abbrev pub idle_packet : ℕ → List ℕ
-idle_packet size = 0x07 ∷ 0xff ∷ 0xc0 ∷ 0x00 ∷ pair (size - 7) ++ replicate (size - 6) 0x55
-
 -- how many octets the data field of a frame with a control word has
 abbrev pub data_length : Profile → ℕ
 data_length profile = profile.tm.length - 10 - check_length profile.tm.fecf
 
--- The idle packet after packets that leave so many octets of the last data field: it fills that, or that and one more, as it has seven octets or more.
+-- The idle packet after packets that leave so many octets of the last data field: it fills that, or that and one more, as it has seven octets or
+-- more.
 abbrev pub idle_length : ℕ → ℕ → ℕ
 idle_length size left = if nat_lt left 7 then left + size else left
 
 -- the fill after so many octets of packets: an idle packet, or nothing if they fill their data fields
 unfoldable pub fill_of : ℕ → ℕ → List (List ℕ)
-fill_of size octets = if octets % size == 0 then [] else idle_packet (idle_length size (size - octets % size)) ∷ []
+fill_of size octets = if octets % size == 0 then [] else idle_packet_of (idle_length size (size - octets % size)) ∷ []
 
 -- packets and their fill
 abbrev pub filled : ℕ → List (List ℕ) → List (List ℕ)
@@ -40,8 +38,8 @@ abbrev pub pointer_in : ℕ → ℕ → List ℕ → ℕ
 pointer_in begin size [] = 2047
 pointer_in begin size (start ∷ more) = if nat_le begin start && nat_lt start (begin + size) then start - begin else pointer_in begin size more
 
--- The frame that a sender sends after so many others: it has the control word, and no secondary header, no synchronization, no other packet order and the
--- segment length identifier 11.
+-- The frame that a sender sends after so many others: it has the control word, and no secondary header, no synchronization, no other packet order and
+-- the segment length identifier 11.
 abbrev pub frame_after : Profile → TmSender → ℕ → ℕ → ℕ → List ℕ → TmParts
 frame_after profile sender word count pointer content = record {
   vcid = profile.tm.vcid;
@@ -69,7 +67,8 @@ idle_frame profile sender word = frame_after profile sender word 0 2046 (replica
 abbrev pub frames_of : Profile → TmSender → ℕ → List (List ℕ) → List TmParts
 frames_of profile sender word [] = idle_frame profile sender word ∷ []
 frames_of profile sender word (packet ∷ packets) =
-    carriers profile sender word (concat (filled (data_length profile) (packet ∷ packets))) (starts 0 (filled (data_length profile) (packet ∷ packets)))
+    carriers profile sender word (concat (filled (data_length profile) (packet ∷ packets)))
+    (starts 0 (filled (data_length profile) (packet ∷ packets)))
 
 -- a sender that has sent so many more frames
 abbrev pub later : TmSender → ℕ → TmSender

@@ -11,6 +11,7 @@ pub mod Flights
 pub mod Telecommands
 pub mod TelecommandReaders
 pub mod TelecommandLaws
+pub mod Uplinks
 pub mod Carriers
 pub mod Receivers
 pub mod CarrierLaws

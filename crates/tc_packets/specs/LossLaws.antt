@@ -26,7 +26,8 @@ lost_after lost [] = lost
 lost_after lost (true ∷ more) = lost_after 0 more
 lost_after lost (false ∷ more) = lost_after (lost + 1) more
 
--- A receiver before the frame with this count, if so many frames were lost just before: no packet is in progress, or it expects the first of the lost ones.
+-- A receiver before the frame with this count, if so many frames were lost just before: no packet is in progress, or it expects the first of the lost
+-- ones.
 pub data Behind (receiver : Receiver) (count lost : ℕ) : Type 0 where
   at_rest : receiver.part ≡ [] → Behind receiver count lost
   missing : (expected : ℕ) → 0 < lost → receiver.expected ≡ Some expected → expected < 2 ^ 8 → (expected + lost) % 2 ^ 8 ≡ count % 2 ^ 8
@@ -53,14 +54,15 @@ packets_in (cut ∷ more) = packets_in more
 packets_in (skipped ∷ more) = packets_in more
 
 -- exactly those packets came all of whose octets lie in frames that came, in order; and the receiver is ready for the next list
-pub record LossesShow (profile : Profile) (sender : TmSender) (word : ℕ) (packets : List (List ℕ)) (receiver : Receiver) (lost : ℕ) (came : List Bool) : Type 0 where
+pub record LossesShow (profile : Profile) (sender : TmSender) (word : ℕ) (packets : List (List ℕ)) (receiver : Receiver) (lost : ℕ)
+    (came : List Bool) : Type 0 where
   pub packets_are : packets_in (run receiver (kept came (frames_of profile sender word packets))).given
       ≡ that_came (data_length profile) came 0 (filled (data_length profile) packets)
   pub ready : Behind (run receiver (kept came (frames_of profile sender word packets))).receiver
       (sender.channel_count + length (frames_of profile sender word packets)) (lost_after lost came)
 
--- If whole frames are lost, no 256 or more in a row, exactly those packets come all of whose octets lie in frames that came. So it is of one list after the
--- other: each leaves the receiver as the next one may find it.
+-- If whole frames are lost, no 256 or more in a row, exactly those packets come all of whose octets lie in frames that came. So it is of one list
+-- after the other: each leaves the receiver as the next one may find it.
 abbrev pub WholePacketsCome : Type 0
 WholePacketsCome =
     (profile : Profile) (sender : TmSender) (word : ℕ) (packets : List (List ℕ)) (receiver : Receiver) (lost : ℕ) (came : List Bool)

@@ -1,7 +1,8 @@
 -- The receiver of packets over telemetry frames of one virtual channel (CCSDS 132.0-B, 4.1). It joins packets again by first header pointers.
-use Rattle.std.specs.Prelude.{◌≡◌, map, Vec, ℕ, zero, suc, ◌+◌, ◌-◌, ◌/◌, ◌%◌, ◌^◌, ◌<◌, ◌==◌, ◌&&◌, ◌||◌, not, nat_le, nat_lt, if◌then◌else◌, Bool, true, false, List, [], ◌∷◌, ◌++◌, length, take, drop, slice_index, Option, Some, None}
-use Rattle.tc_octets.specs.Bits.{pair_at}
+use Rattle.std.specs.Prelude.{◌≡◌, map, Vec, ℕ, zero, suc, ◌+◌, ◌-◌, ◌/◌, ◌%◌, ◌^◌, ◌<◌, ◌==◌, ◌&&◌, ◌||◌, not, nat_le, nat_lt, if◌then◌else◌, Bool}
+use Rattle.std.specs.Prelude.{true, false, List, [], ◌∷◌, ◌++◌, length, take, drop, slice_index, Option, Some, None}
 use Rattle.tc_octets.specs.TmFrames.{TmParts}
+use Rattle.tc_packets.specs.SpacePackets.{whole_length_in}
 use Rattle.tc_packets.specs.declared.packet_readers.Item.{Item}
 use Rattle.tc_packets.specs.declared.packet_readers.Item.TheVariants as item
 
@@ -43,11 +44,7 @@ abbrev pub dropped : List ℕ → Received
 dropped [] = quiet []
 dropped (octet ∷ octets) = record { given = cut ∷ []; part = [] }
 
--- The length of a packet by its length field (CCSDS 133.0-B, 4.1.3.5). While fewer than its six octets of header came, this is more than came.
-abbrev pub packet_length : List ℕ → ℕ
-packet_length octets = pair_at octets 4 + 7
-
--- ---- the rules, for the packet in progress
+-- ---- the rules, for the packet in progress; while fewer than the six octets of its header came, its length by its length field is more than came
 
 abbrev pub is_next : Option ℕ → ℕ → Bool
 is_next None count = true
@@ -57,16 +54,16 @@ is_next (Some expected) count = count == expected
 unfoldable pub counted : Option ℕ → ℕ → List ℕ → Received
 counted expected count part = if is_next expected count then quiet part else marked gap (dropped part)
 
--- Frames are skipped that have a secondary header, synchronization, another packet order or another segment length identifier than 11, or a pointer past the
--- data field of so many octets.
+-- Frames are skipped that have a secondary header, synchronization, another packet order or another segment length identifier than 11, or a pointer
+-- past the data field of so many octets.
 unfoldable pub is_skipped : ℕ → ℕ → Bool
 is_skipped status size = not (status / 2 ^ 11 == 3) || (nat_le size (status % 2 ^ 11) && nat_lt (status % 2 ^ 11) 2046)
 
 -- The packet in progress has these octets now. It may be whole, or go on in the next frame if it may; else it is dropped.
 abbrev pub ended : Bool → List ℕ → Received
 ended may_go_on octets =
-    if length octets == packet_length octets then record { given = packet octets ∷ []; part = [] }
-    else if may_go_on && nat_lt (length octets) (packet_length octets) then quiet octets
+    if length octets == whole_length_in octets then record { given = packet octets ∷ []; part = [] }
+    else if may_go_on && nat_lt (length octets) (whole_length_in octets) then quiet octets
     else dropped octets
 
 -- Octets go on with the packet in progress, if there is one.
@@ -78,14 +75,14 @@ continued may_go_on (first ∷ part) octets = ended may_go_on (first ∷ part ++
 abbrev pub from_start : List ℕ → Received → Received
 from_start octets rest =
     if nat_le (2 ^ 5) (slice_index octets 0) then record { given = cut ∷ []; part = [] }
-    else if nat_lt (length octets) (packet_length octets) then quiet octets
-    else marked (packet (take (packet_length octets) octets)) rest
+    else if nat_lt (length octets) (whole_length_in octets) then quiet octets
+    else marked (packet (take (whole_length_in octets) octets)) rest
 
 -- whole packets one after the other, after so many octets that are passed over
 unfoldable pub begun : ℕ → List ℕ → Received
 begun passed [] = quiet []
 begun (suc passed) (octet ∷ octets) = begun passed octets
-begun zero (octet ∷ octets) = from_start (octet ∷ octets) (begun (packet_length (octet ∷ octets) - 1) octets)
+begun zero (octet ∷ octets) = from_start (octet ∷ octets) (begun (whole_length_in (octet ∷ octets) - 1) octets)
 
 -- by the first header pointer: idle data alone, no start of a packet, or the first start
 unfoldable pub carried : ℕ → List ℕ → List ℕ → Received
@@ -117,4 +114,4 @@ received_to receiver frame = record { part = (received receiver frame).part; exp
 
 -- a packet in progress is less than a whole one
 abbrev pub IsPart : List ℕ → Type 0
-IsPart part = length part < packet_length part
+IsPart part = length part < whole_length_in part

@@ -1,6 +1,7 @@
 -- What telemetry packets tell (ECSS-E-ST-70-41C, 7.4.3, 8.1.2, 8.11.2).
 -- Time reference status, message type counter, time on board and fractions of a second are ignored.
-use Rattle.std.specs.Prelude.{◌≡◌, ◌≢◌, ◌⊎◌, ℕ, ◌+◌, ◌/◌, ◌^◌, ◌-◌, ◌<◌, ◌≤◌, ◌==◌, if◌then◌else◌, Bool, true, false, List, [], ◌∷◌, length, take, drop, slice_index, slice_range, Option, Some, None, Result, Ok, Err}
+use Rattle.std.specs.Prelude.{◌≡◌, ◌≢◌, ◌⊎◌, ℕ, ◌+◌, ◌/◌, ◌^◌, ◌-◌, ◌≤◌, ◌==◌, if◌then◌else◌, Bool, true, false, List, [], ◌∷◌, length, take}
+use Rattle.std.specs.Prelude.{drop, slice_index, slice_range, Option, Some, None, Result, Ok, Err}
 use Rattle.std.specs.List.{filter_map}
 use Rattle.tc_types.specs.LinkLines.{verification_subtype}
 use Rattle.tc_types.specs.Limits.{most_activities}
@@ -186,14 +187,9 @@ Judges profile octets header field (Err faults.Check) = IsLong profile header fi
 Judges profile octets header field (Err faults.Data) =
     IsSound profile octets header field × IsOurs profile field × ReadsField profile header.identity field None
 
--- an APID of 11 bits, and a count of 14
-pub record IsHeader (header : PacketHeader) : Type 0 where
-  pub apid : header.identity.apid < 2 ^ 11
-  pub count : header.identity.count < 2 ^ 14
-
 -- A reader hands on why octets are no space packet, and judges the packet that they are.
 abbrev pub HandsOn : Profile → List ℕ → Result SpacePacket SpaceFault → Result Heard ReportFault → Type 0
-HandsOn profile octets (Ok packet) result = IsHeader packet.header × Judges profile octets packet.header packet.field.now result
+HandsOn profile octets (Ok packet) result = Judges profile octets packet.header packet.field.now result
 HandsOn profile octets (Err space.Length) result = result ≡ Err faults.Length
 HandsOn profile octets (Err space.Version) result = result ≡ Err faults.Version
 

@@ -1,5 +1,6 @@
 -- Space packets (CCSDS 133.0-B, 4.1).
-use Rattle.std.specs.Prelude.{◌≡◌, ◌≢◌, ℕ, ◌+◌, ◌*◌, ◌/◌, ◌^◌, ◌-◌, ◌≤◌, Bool, if◌then◌else◌, false, List, ◌++◌, length, Result, Ok, Err, replicate}
+use Rattle.std.specs.Prelude.{◌≡◌, ◌≢◌, ℕ, ◌+◌, ◌*◌, ◌/◌, ◌^◌, ◌-◌, ◌<◌, ◌≤◌, Bool, if◌then◌else◌, false, List, ◌++◌, length, Result, Ok, Err}
+use Rattle.std.specs.Prelude.{replicate}
 use Rattle.tc_octets.specs.Bits.{pair, pair_at}
 use Rattle.tc_packets.specs.declared.space_packets.PacketType.{PacketType}
 use Rattle.tc_packets.specs.declared.space_packets.PacketType.TheVariants as types
@@ -46,6 +47,11 @@ pub record IsField (field : List ℕ) : Type 0 where
   pub least : 1 ≤ length field
   pub most : length field ≤ 2 ^ 16
 
+-- an APID of 11 bits, and a count of 14
+pub record IsHeader (header : PacketHeader) : Type 0 where
+  pub apid : header.identity.apid < 2 ^ 11
+  pub count : header.identity.count < 2 ^ 14
+
 -- ---- what a reader looks at
 
 -- how many octets a packet says that it has: those of its header and of its data field
@@ -62,7 +68,7 @@ version_in octets = pair_at octets 0 / 2 ^ 13
 
 -- What a reader says of octets: the packet, where they are just that packet; else the first fault that applies.
 abbrev pub ReadsPacket : List ℕ → Result SpacePacket SpaceFault → Type 0
-ReadsPacket octets (Ok packet) = IsField packet.field.now × (octets ≡ space_packet_of packet.header packet.field.now)
+ReadsPacket octets (Ok packet) = IsHeader packet.header × IsField packet.field.now × (octets ≡ space_packet_of packet.header packet.field.now)
 ReadsPacket octets (Err faults.Length) = ¬ IsWhole octets
 ReadsPacket octets (Err faults.Version) = IsWhole octets × (version_in octets ≢ 0)
 

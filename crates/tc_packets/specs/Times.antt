@@ -1,6 +1,7 @@
 -- Times on board (CCSDS 301.0-B, the unsegmented time code CUC): no preamble, four octets of seconds since the link's epoch, and two of fraction if
 -- times are fine.
-use Rattle.std.specs.Prelude.{◌≡◌, ℕ, ℤ, pos, negsuc, ◌+◌, ◌-◌, ◌^◌, ◌<◌, ◌≤ℤ◌, min, Bool, if◌then◌else◌, Option, Some, None, List, [], ◌∷◌, ◌++◌, length, take}
+use Rattle.std.specs.Prelude.{◌≡◌, ℕ, ℤ, pos, negsuc, ◌+◌, ◌-◌, ◌^◌, ◌<◌, ◌≤ℤ◌, min, Bool, if◌then◌else◌, Option, Some, None, List, [], ◌∷◌, ◌++◌}
+use Rattle.std.specs.Prelude.{length, take}
 use Rattle.tc_types.specs.Limits.{last_moment}
 use Rattle.tc_types.specs.Numbers.{IsMoment}
 use Rattle.tc_octets.specs.declared.profiles.Profile.{Profile}
@@ -72,11 +73,6 @@ ReadsOffset profile octets (Some offset) = IsOffsetOf profile octets offset
 ReadsOffset profile octets None = ⊥
 
 -- ---- the clock on board
-
--- an epoch of this link: 1 January 1958 to 31 December 2099
-pub record IsEpoch (epoch : ℤ) : Type 0 where
-  pub least : negsuc 378691199 ≤ℤ epoch
-  pub most : epoch ≤ℤ pos last_moment
 
 -- the earliest moment that has octets, and the latest
 abbrev pub first_on_board : ℤ → ℕ

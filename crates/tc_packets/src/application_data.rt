@@ -24,7 +24,8 @@ impl Model for ApplicationData {
 
     ghost view = { λ d. take d.count d.octets };
 
-    ghost invariant = { λ d. (d.count ≤ most_data) × (d.octets ≡ padded_data (take d.count d.octets)) × (length d.octets ≡ 96) × (length (take d.count d.octets) ≤ most_data) };
+    ghost invariant = { λ d. (d.count ≤ most_data) × (d.octets ≡ padded_data (take d.count d.octets)) × (length d.octets ≡ 96)
+        × (length (take d.count d.octets) ≤ most_data) };
 
     ghost inverse = { λ octets. record { octets = padded_data octets; count = length octets } };
 }

@@ -2,7 +2,8 @@
 ghost use Rattle.tc_packets.specs.CarrierLaws.{PacketsComeBack, PartsStayShort, ReportsComeBack};
 ghost use Rattle.tc_packets.specs.LossLaws.{WholePacketsCome};
 
-/// A list of packets that is sent over telemetry frames comes back from a receiver that awaits its first frame, with the idle packet that fills the last one.
+/// A list of packets that is sent over telemetry frames comes back from a receiver that awaits its first frame, with the idle packet that fills the
+/// last one.
 /// No packet is in progress then, and the receiver awaits the frames of the next list.
 pub fn packets_come_back()
     ensures { PacketsComeBack }

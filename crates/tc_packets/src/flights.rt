@@ -55,7 +55,8 @@ impl Model for FlightActivities {
 
     ghost view = { λ a. take a.count a.places };
 
-    ghost invariant = { λ a. (a.count ≤ most_inserted) × IsInsert (take a.count a.places) × (a.places ≡ padded (take a.count a.places)) × (length a.places ≡ 8) };
+    ghost invariant = { λ a. (a.count ≤ most_inserted) × IsInsert (take a.count a.places) × (a.places ≡ padded (take a.count a.places))
+        × (length a.places ≡ 8) };
 
     ghost inverse = { λ activities. record { places = padded activities; count = length activities } };
 }

@@ -21,6 +21,7 @@ mod telecommands;
 mod times;
 mod tm_senders;
 mod told;
+mod uplinks;
 
 pub use application_data::{ApplicationData, MOST_DATA};
 pub use flights::{Flight, FlightActivities, FlightActivity, FlightTask, Plain, fits};
@@ -45,4 +46,7 @@ pub use times::{
 pub use tm_senders::TmSender;
 pub use told::{
     Heard, HeardReport, ReportFault, ScheduleSummary, ScheduledActivities, ScheduledActivity, Told,
+};
+pub use uplinks::{
+    Upward, UpwardFault, read_information, read_upward, request_cltu, request_frame,
 };

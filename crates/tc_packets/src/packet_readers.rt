@@ -1,14 +1,14 @@
 //! The receiver of packets over telemetry frames of one virtual channel.
 ghost use Rattle.std.specs.Prelude.{◌≡◌, ◌++◌, ◌∷◌, [], ◌<◌, ◌≤◌, nat_lt, OnErr, OnOk, IfOk, length, map};
 ghost use Rattle.tc_octets.specs.TmFrames.{tm_parts};
-ghost use Rattle.tc_packets.specs.Receivers.{Appends, begun, carried, continued, dropped, ended, fresh, given_of, is_next, is_skipped, looked_at, packet, packet_length, received, received_to};
+ghost use Rattle.tc_packets.specs.Receivers.{Appends, begun, carried, continued, dropped, ended, fresh, given_of, is_next, is_skipped, looked_at};
+ghost use Rattle.tc_packets.specs.Receivers.{packet, received, received_to};
+ghost use Rattle.tc_packets.specs.SpacePackets.{whole_length_in};
 
+use crate::space_packets::{HEADER, whole_length};
 use std::alloc::{AllocError, Allocator};
 use std::marker::Model;
 use tc_octets::TmFrame;
-
-/// The octets of a space packet's primary header.
-const HEADER: usize = 6;
 
 /// The first header pointer of a frame that has idle data alone (CCSDS 132.0-B, 4.1.2.7.6).
 const IDLE_DATA: usize = 2046;
@@ -29,19 +29,11 @@ pub enum Item<A: Allocator + Copy + Drop> {
     Skipped,
 }
 
-/// The length of a packet by its length field.
-fn packet_length(octets: &[u8]) -> usize
-    requires { 6 ≤ length octets.now }
-    ensures { result ≡ packet_length octets.now }
-{
-    usize::from(octets[4]) * 256 + usize::from(octets[5]) + 7
-}
-
 /// Whether these octets are less than the packet that they begin.
 fn is_short(octets: &[u8]) -> bool
-    ensures { result ≡ nat_lt (length octets.now) (packet_length octets.now) }
+    ensures { result ≡ nat_lt (length octets.now) (whole_length_in octets.now) }
 {
-    octets.len() < HEADER || octets.len() < packet_length(octets)
+    octets.len() < HEADER || octets.len() < whole_length(octets)
 }
 
 /// Adds a mark for the packet in progress, if there is one to drop. None is in progress then.
@@ -87,7 +79,7 @@ fn end_part<A: Allocator + Copy + Drop>(
         }
         return drop_part(alloc, &part, out);
     }
-    if part.len() != packet_length(&part) {
+    if part.len() != whole_length(&part) {
         return drop_part(alloc, &part, out);
     }
     out.push(Item::Packet(part))?;
@@ -132,7 +124,7 @@ fn begin<A: Allocator + Copy + Drop>(
             let left = Vec::from_slice(alloc, rest)?;
             return Ok(left);
         }
-        let size = packet_length(rest);
+        let size = whole_length(rest);
         put_packet(alloc, &rest[..size], out)?;
         at += size;
     }
@@ -218,8 +210,8 @@ fn receive<A: Allocator + Copy + Drop>(
     look_at(alloc, frame.status, frame.data, &[], out)
 }
 
-/// The receiver of packets over the frames of one virtual channel (CCSDS 132.0-B, 4.1). It keeps the octets of the packet in progress, 65,541 at most, and
-/// the frame count that it expects. A contract sees both.
+/// The receiver of packets over the frames of one virtual channel (CCSDS 132.0-B, 4.1). It keeps the octets of the packet in progress, 65,541 at
+/// most, and the frame count that it expects. A contract sees both.
 #[derive(Drop)]
 pub struct PacketReader<A: Allocator + Copy + Drop> {
     alloc: A,
@@ -250,8 +242,8 @@ impl<A: Allocator + Copy + Drop> PacketReader<A> {
         }
     }
 
-    /// Takes the next frame of the channel, and adds what it brings: packets and marks, in order. Fails if memory is refused; nothing is added then, and
-    /// the receiver is as it was, so the frame can be given again.
+    /// Takes the next frame of the channel, and adds what it brings: packets and marks, in order. Fails if memory is refused; nothing is added then,
+    /// and the receiver is as it was, so the frame can be given again.
     pub fn frame(&mut self, frame: &TmFrame, out: &mut Vec<Item<A>, A>) -> Result<(), AllocError>
         ensures given { OnOk result (map given_of out.new.items ≡ map given_of out.old.items ++ (received self.old (tm_parts frame.now)).given) }
         ensures after { OnOk result (self.new ≡ received_to self.old (tm_parts frame.now)) }

@@ -5,7 +5,9 @@ ghost use Rattle.std.specs.Option.{MatchOption};
 ghost use Rattle.tc_types.specs.Limits.{most_activities};
 ghost use Rattle.tc_octets.specs.declared.profiles.Profile.{Profile as SomeProfile};
 ghost use Rattle.tc_packets.specs.Reports.{status_of};
-ghost use Rattle.tc_packets.specs.ReportReaders.{Entry as SomeEntry, HasNoEntries, HasRoom, IsEntry, IsHeader, IsKnown, IsOurs, IsReportHeader, IsSound, Judges, Lists, ReadsDetails, ReadsField, ReadsReport, ReadsSource, entry_length, our_activity, source_data_in};
+ghost use Rattle.tc_packets.specs.ReportReaders.{Entry as SomeEntry, HasNoEntries, HasRoom, IsEntry, IsKnown, IsOurs, IsReportHeader};
+ghost use Rattle.tc_packets.specs.ReportReaders.{IsSound, Judges, Lists, ReadsDetails, ReadsField, ReadsReport, ReadsSource, entry_length};
+ghost use Rattle.tc_packets.specs.ReportReaders.{our_activity, source_data_in};
 
 use crate::identities::{ActivityName, NAME, REQUEST_ID, read_name, read_request_id};
 use crate::octet_fields::pair_in;
@@ -241,10 +243,9 @@ fn heard_in(profile: &Profile, octets: &[u8], packet: &SpacePacket) -> Result<He
 
 /// Judges a space packet, by steps.
 fn judge(profile: &Profile, octets: &[u8], packet: &SpacePacket) -> Result<Heard, ReportFault>
-    ensures { IsHeader packet.now.header × Judges profile.now octets.now packet.now.header packet.now.field.now result }
+    ensures { Judges profile.now octets.now packet.now.header packet.now.field.now result }
 {
     let identity = packet.header.identity;
-    let _count = identity.count.get(); // read for the proof alone
     if identity.apid.get() == IDLE_APID {
         return Ok(Heard::Idle);
     }

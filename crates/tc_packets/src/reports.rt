@@ -4,7 +4,8 @@ ghost use Rattle.std.specs.List.{flat_map};
 ghost use Rattle.tc_types.specs.Limits.{most_activities};
 ghost use Rattle.tc_octets.specs.TcFrames.{closed};
 ghost use Rattle.tc_packets.specs.Times.{HasTime};
-ghost use Rattle.tc_packets.specs.Reports.{IsListed, IsReportable, activity_octets, details_of, report_field, report_header, report_of, secondary_header, service_of, source_data, status_of, subtype_of, summary_data};
+ghost use Rattle.tc_packets.specs.Reports.{IsListed, IsReportable, activity_octets, details_of, report_field, report_header, report_of};
+ghost use Rattle.tc_packets.specs.Reports.{secondary_header, service_of, source_data, status_of, subtype_of, summary_data};
 
 use crate::identities::{ActivityName, flies, put_name, put_request_id};
 use crate::octet_fields::put_pair;

@@ -1,6 +1,8 @@
 //! Space packets.
 ghost use Rattle.std.specs.Prelude.{◌≡◌, ◌++◌, ◌+◌, ◌≤◌, ◌^◌, IfOk, OnOk, length, replicate};
-ghost use Rattle.tc_packets.specs.SpacePackets.{IsField, ReadsPacket, header_of, identification, idle_packet_of, sequence_bits, sequence_control, space_packet_of, type_bit, version_in, whole_length_in};
+ghost use Rattle.tc_packets.specs.SpacePackets.{IsField, IsHeader, ReadsPacket, header_of, identification, idle_packet_of, sequence_bits};
+ghost use Rattle.tc_packets.specs.SpacePackets.{sequence_control};
+ghost use Rattle.tc_packets.specs.SpacePackets.{space_packet_of, type_bit, version_in, whole_length_in};
 ghost use Rattle.tc_octets.specs.Bits.{pair_at};
 
 use crate::octet_fields::{pair_in, put_pair};
@@ -206,6 +208,7 @@ fn header_in(octets: &[u8]) -> PacketHeader
     requires version { version_in octets.now ≡ 0 }
     ensures identification { identification result ≡ pair_at octets.now 0 }
     ensures sequence_control { sequence_control result ≡ pair_at octets.now 2 }
+    ensures ranged { IsHeader result }
 {
     let first = pair_in(octets, 0);
     let second = pair_in(octets, 2);

@@ -3,7 +3,8 @@ ghost use Rattle.std.specs.Prelude.{◌≡◌, ◌≤◌, ◌↔◌, IfSome, IsS
 ghost use Rattle.tc_types.specs.Inserts.{IsInsert};
 ghost use Rattle.std.specs.Option.{MatchOption};
 ghost use Rattle.tc_packets.specs.Times.{time_length};
-ghost use Rattle.tc_packets.specs.TelecommandReaders.{BeginsWithNone, BeginsWithPacket, IsBare, Passes, ReadsActivities, ReadsActivity, ReadsParts, ReadsPlain, ReadsRequest, ReadsTarget, ReadsTask};
+ghost use Rattle.tc_packets.specs.TelecommandReaders.{BeginsWithNone, BeginsWithPacket, IsBare, Passes, ReadsActivities, ReadsActivity, ReadsParts};
+ghost use Rattle.tc_packets.specs.TelecommandReaders.{ReadsPlain, ReadsRequest, ReadsTarget, ReadsTask};
 
 use crate::application_data::ApplicationData;
 use crate::flights::{FlightActivities, FlightActivity, FlightTask, Plain};

@@ -2,7 +2,8 @@
 ghost use Rattle.std.specs.Prelude.{◌≡◌, ◌≤◌, ◌↔◌, IsTrue, length, slice_index, ◌%◌, ◌^◌};
 ghost use Rattle.tc_octets.specs.Bits.{pair_at};
 ghost use Rattle.tc_packets.specs.Telecommands.{ack_bits};
-ghost use Rattle.tc_packets.specs.TelecommandReaders.{HasHeader, HasType, HeadersSay, IsChecked, IsLong, Names, Passes, Reads, Rejects, data_in, rejection_code};
+ghost use Rattle.tc_packets.specs.TelecommandReaders.{HasHeader, HasType, HeadersSay, IsChecked, IsLong, Names, Passes, Reads, Rejects, data_in};
+ghost use Rattle.tc_packets.specs.TelecommandReaders.{rejection_code};
 
 use crate::flights::Flight;
 use crate::identities::{REQUEST, REQUEST_ID, WHOLE, read_request_id};

@@ -4,7 +4,8 @@ ghost use Rattle.std.specs.List.{AllByRecursion};
 ghost use Rattle.tc_packets.specs.Flights.{Fits, FitsActivity, FitsTask};
 ghost use Rattle.tc_packets.specs.Identities.{request_header};
 ghost use Rattle.tc_packets.specs.SpacePackets.{header_of};
-ghost use Rattle.tc_packets.specs.Telecommands.{ack_bits, activity_of, activity_packet_of, data_of, outcome_part, packet_of, plain_data_of, secondary_header_of, service_of, subtype_of, target_of, telecommand_of};
+ghost use Rattle.tc_packets.specs.Telecommands.{ack_bits, activity_of, activity_packet_of, data_of, outcome_part, packet_of, plain_data_of};
+ghost use Rattle.tc_packets.specs.Telecommands.{secondary_header_of, service_of, subtype_of, target_of, telecommand_of};
 
 use crate::flights::{Flight, FlightActivity, FlightTask, Plain};
 use crate::identities::{ActivityName, put_name};
@@ -81,7 +82,8 @@ fn put_headers<A: Allocator + Copy>(
     octets: usize,
 ) -> Result<(), AllocError>
     requires { octets ≤ 1000 }
-    ensures { OnOk result (out.new.items ≡ out.old.items ++ (header_of (request_header request.0) (7 + octets) ++ secondary_header_of profile.now request.1 message_type.0 message_type.1)) }
+    ensures { OnOk result (out.new.items ≡ out.old.items
+        ++ (header_of (request_header request.0) (7 + octets) ++ secondary_header_of profile.now request.1 message_type.0 message_type.1)) }
 {
     let (identity, ack) = request;
     let header = PacketHeader {

@@ -1,6 +1,7 @@
 //! Times on board.
 ghost use Rattle.std.specs.Prelude.{◌≡◌, ◌++◌, ◌↔◌, IsTrue, OnOk, length};
-ghost use Rattle.tc_packets.specs.Times.{FitsOffset, HasTime, IsEpoch, ReadsOffset, ReadsTime, complement, first_on_board, fraction, last_on_board, offset_of, time_length, time_of};
+ghost use Rattle.tc_packets.specs.Times.{FitsOffset, HasTime, ReadsOffset, ReadsTime, complement, first_on_board, fraction, last_on_board};
+ghost use Rattle.tc_packets.specs.Times.{offset_of, time_length, time_of};
 
 use crate::octet_fields::{put_quad, quad_in};
 use std::alloc::{AllocError, Allocator};
@@ -60,9 +61,6 @@ pub fn read_time(profile: &Profile, octets: &[u8]) -> Option<Moment>
     ensures { ReadsTime profile.now octets.now result }
 {
     let seconds = i64::from(quad_in(octets, 0));
-    if profile.epoch > i64::from(LARGEST_MOMENT) || profile.epoch < -MOST_SECONDS {
-        return None;
-    }
     let moment = profile.epoch + seconds;
     if moment < 0 || moment > i64::from(LARGEST_MOMENT) {
         return None;
@@ -118,7 +116,6 @@ pub fn read_offset(profile: &Profile, octets: &[u8]) -> Option<Offset>
 
 /// The earliest moment that has octets: the later of Unix time 0 and the epoch.
 pub fn first_on_board(profile: &Profile) -> Moment
-    requires { IsEpoch profile.now.epoch }
     ensures { result ≡ first_on_board profile.now.epoch }
 {
     if profile.epoch < 0 {
@@ -129,7 +126,6 @@ pub fn first_on_board(profile: &Profile) -> Moment
 
 /// The latest moment that has octets: the earlier of Unix time 4,102,444,799 and the epoch and 2 ^ 32 - 1 seconds.
 pub fn last_on_board(profile: &Profile) -> Moment
-    requires { IsEpoch profile.now.epoch }
     ensures { result ≡ last_on_board profile.now.epoch }
 {
     let last = profile.epoch + MOST_SECONDS;

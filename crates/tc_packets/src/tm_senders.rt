@@ -2,8 +2,10 @@
 ghost use Rattle.std.specs.Prelude.{◌≡◌, ◌++◌, [], ◌<◌, ◌≤◌, ◌+◌, ◌%◌, ◌^◌, OnErr, OnOk, IfOk, length, map};
 ghost use Rattle.std.specs.List.{concat};
 ghost use Rattle.tc_octets.specs.TmFrames.{tm_frame_of};
-ghost use Rattle.tc_packets.specs.Carriers.{carriers, data_length, fill_of, filled, frame_after, frames_of, idle_frame, idle_packet, later, octets_of, pointer_in, starts};
+ghost use Rattle.tc_packets.specs.Carriers.{carriers, data_length, fill_of, filled, frame_after, frames_of, idle_frame, later};
+ghost use Rattle.tc_packets.specs.Carriers.{octets_of, pointer_in, starts};
 
+use crate::space_packets::{FEWEST_PACKET, put_idle_packet};
 use std::alloc::{AllocError, Allocator};
 use tc_octets::{Profile, TmFrame, tm_frame};
 
@@ -15,12 +17,6 @@ const CHECK: usize = 2;
 
 /// The octet that idle data are filled with.
 const FILL: u8 = 0x55;
-
-/// The least octets of a packet.
-const LEAST_PACKET: usize = 7;
-
-/// The octets of a packet's primary header.
-const HEADER: usize = 6;
 
 /// The first header pointer of a frame that has idle data alone (CCSDS 132.0-B, 4.1.2.7.6).
 const IDLE_DATA: u16 = 2046;
@@ -39,25 +35,6 @@ fn data_length(profile: &Profile) -> usize
 {
     let check = if profile.tm.fecf { CHECK } else { 0 };
     usize::from(profile.tm.length) - AROUND - check
-}
-
-/// Adds an idle packet of so many octets (CCSDS 133.0-B, 4.1).
-fn put_idle<A: Allocator + Copy + Drop>(
-    octets: &mut Vec<u8, A>,
-    size: usize,
-) -> Result<(), AllocError>
-    requires least { 7 ≤ size }
-    requires most { size < 2 ^ 16 }
-    ensures { OnOk result (octets.new.items ≡ octets.old.items ++ idle_packet size) }
-{
-    let told = size - LEAST_PACKET;
-    octets.extend_from_slice(&[0x07, 0xff, 0xc0, 0x00])?;
-    octets.push((told / 256) as u8)?;
-    octets.push((told % 256) as u8)?;
-    for _ in 0..size - HEADER {
-        octets.push(FILL)?;
-    }
-    Ok(())
 }
 
 /// Adds packets one after the other, and the places where they start.
@@ -96,13 +73,13 @@ fn fill<A: Allocator + Copy + Drop>(
         return Ok(());
     }
     let left = size - over;
-    let idle = if left < LEAST_PACKET {
+    let idle = if left < FEWEST_PACKET {
         left + size
     } else {
         left
     };
     places.push(octets.len())?;
-    put_idle(octets, idle)
+    put_idle_packet(octets, idle)
 }
 
 /// Packets one after the other, with an idle packet after them if they do not fill the last data field, and the places where these start.
@@ -130,7 +107,7 @@ fn join<A: Allocator + Copy + Drop>(
     Ok(Joined { octets, places })
 }
 
-#[tactic(auto, using(crate::proofs::SenderLemmas::pointer_here, crate::proofs::SenderLemmas::pointer_before, crate::proofs::SenderLemmas::pointer_behind))]
+#[tactic(auto, using(crate::proofs::SenderLemmas::here, crate::proofs::SenderLemmas::before, crate::proofs::SenderLemmas::after))]
 /// The first header pointer of the data field of so many octets that begins at a place.
 fn pointer_in(places: &[usize], begin: usize, size: usize) -> u16
     requires field { size ≤ 2048 }
@@ -184,7 +161,8 @@ impl Sending<'_> {
         requires count { count < 2 ^ 63 }
         requires pointer { pointer ≤ 2047 }
         requires content { length content.now ≡ data_length self.now.profile.now }
-        ensures { IfOk result (λ frame. octets_of frame ≡ tm_frame_of self.now.profile.now (frame_after self.now.profile.now self.now.sender self.now.word count pointer content.now)) }
+        ensures { IfOk result (λ frame. octets_of frame
+            ≡ tm_frame_of self.now.profile.now (frame_after self.now.profile.now self.now.sender self.now.word count pointer content.now)) }
     {
         let frame = TmFrame {
             vcid: self.profile.tm.vcid,
@@ -199,7 +177,8 @@ impl Sending<'_> {
 
     /// A frame of idle data.
     fn idle<A: Allocator + Copy + Drop>(&self, alloc: A) -> Result<Vec<u8, A>, AllocError>
-        ensures { IfOk result (λ frame. octets_of frame ≡ tm_frame_of self.now.profile.now (idle_frame self.now.profile.now self.now.sender self.now.word)) }
+        ensures { IfOk result (λ frame. octets_of frame
+            ≡ tm_frame_of self.now.profile.now (idle_frame self.now.profile.now self.now.sender self.now.word)) }
     {
         let mut content = Vec::new(alloc);
         content.resize(data_length(self.profile), FILL)?;
@@ -214,7 +193,9 @@ impl Sending<'_> {
         octets: &[u8],
         places: &[usize],
     ) -> Result<Vec<Vec<u8, A>, A>, AllocError>
-        ensures { IfOk result (λ frames. map octets_of frames.items ≡ map (λ frame. tm_frame_of self.now.profile.now frame) (carriers self.now.profile.now self.now.sender self.now.word octets.now places.now)) }
+        ensures { IfOk result (λ frames. map octets_of frames.items
+            ≡ map (λ frame. tm_frame_of self.now.profile.now frame)
+            (carriers self.now.profile.now self.now.sender self.now.word octets.now places.now)) }
     {
         let size = data_length(self.profile);
         let mut frames = Vec::new(alloc);
@@ -233,7 +214,9 @@ impl Sending<'_> {
         alloc: A,
         packets: &[Vec<u8, A>],
     ) -> Result<Vec<Vec<u8, A>, A>, AllocError>
-        ensures { IfOk result (λ frames. map octets_of frames.items ≡ map (λ frame. tm_frame_of self.now.profile.now frame) (frames_of self.now.profile.now self.now.sender self.now.word (map octets_of packets.now))) }
+        ensures { IfOk result (λ frames. map octets_of frames.items
+            ≡ map (λ frame. tm_frame_of self.now.profile.now frame)
+            (frames_of self.now.profile.now self.now.sender self.now.word (map octets_of packets.now))) }
     {
         if packets.is_empty() {
             let frame = self.idle(alloc)?;
@@ -248,8 +231,8 @@ impl Sending<'_> {
 }
 
 impl TmSender {
-    /// The frames that carry these packets, in order, each with this control word. An idle packet comes after them if they do not fill the last frame, and if
-    /// there are none it is one frame of idle data. Fails if memory is refused: both counts are then as they were.
+    /// The frames that carry these packets, in order, each with this control word. An idle packet comes after them if they do not fill the last
+    /// frame, and if there are none it is one frame of idle data. Fails if memory is refused: both counts are then as they were.
     pub fn send<A: Allocator + Copy + Drop>(
         &mut self,
         alloc: A,
@@ -257,7 +240,8 @@ impl TmSender {
         word: u32,
         packets: &[Vec<u8, A>],
     ) -> Result<Vec<Vec<u8, A>, A>, AllocError>
-        ensures frames { IfOk result (λ frames. map octets_of frames.items ≡ map (λ frame. tm_frame_of profile.now frame) (frames_of profile.now self.old word (map octets_of packets.now))) }
+        ensures frames { IfOk result (λ frames. map octets_of frames.items
+            ≡ map (λ frame. tm_frame_of profile.now frame) (frames_of profile.now self.old word (map octets_of packets.now))) }
         ensures counts { IfOk result (λ frames. self.new ≡ later self.old (length frames.items)) }
         ensures refused { OnErr result (self.new ≡ self.old) }
     {

@@ -1,2 +1,3 @@
 mod PostLemmas
 mod ToldLemmas
+mod SendLemmas

@@ -1,2 +1,4 @@
 pub mod Posting
 pub mod Told
+pub mod Numbered
+pub mod Sending

@@ -1,5 +1,5 @@
 mod ToldLemmas
-mod RoomLemmas
+pub mod RoomLemmas
 mod TableLemmas
 mod OpeningLemmas
 pub mod LoadLemmas

@@ -128,7 +128,7 @@ impl<S: Alter + Drop> Room<S> {
         match line.act {
             Act::Ask(query) => {
                 let answer = answer_asked(alloc, self, query);
-                // read for the proof alone: what the rows tell is true
+                // read for the proof alone: the promise is kept
                 let _opened = self.opened();
                 Called {
                     answer,
@@ -158,7 +158,7 @@ impl<S: Alter + Drop> Room<S> {
         ensures keeps { KeepsCall S.Store self.old result self.new }
         ensures acted { CallsTrue text.now self.old result self.new }
     {
-        // read for the proof alone: what the rows tell is true
+        // read for the proof alone: the promise is kept
         let _opened = self.opened();
         match judge_act(caller.by, moment, text) {
             Ok(line) => self.ask_once(alloc, caller, line),
@@ -220,7 +220,7 @@ impl<S: Alter + Drop> Room<S> {
         ensures called { IsCalled (IsAnew S.Store (λ replies acts reply new. (acts ≡ true) × LoadsTextOnce S.Store kind stamp name csv.now replies caller self.old reply new) self.old) self.old result self.new }
         ensures keeps { KeepsCall S.Store self.old result self.new }
     {
-        // read for the proof alone: what the rows tell is true
+        // read for the proof alone: the promise is kept
         let _opened = self.opened();
         let spelled = match loadings::read(alloc, kind, csv) {
             Ok(spelled) => spelled,
@@ -246,7 +246,7 @@ impl<S: Alter + Drop> Room<S> {
         ensures called { IsCalled (IsAnew S.Store (λ replies acts reply new. LoadsAnew S.Store kind moment name.now csv.now replies caller self.old acts reply new) self.old) self.old result self.new }
         ensures keeps { KeepsCall S.Store self.old result self.new }
     {
-        // read for the proof alone: what the rows tell is true
+        // read for the proof alone: the promise is kept
         let _opened = self.opened();
         match known(moment, name) {
             Some(known) => {

@@ -2,8 +2,10 @@
 use Rattle.std.proofs.Common.{◌≡◌, ℕ, List, Result, Ok, Err, subst}
 use Rattle.std.specs.Io.KnownBytes.{Appends}
 use Rattle.std.specs.Prelude.{◌≢◌, IfErr, IsTrue}
-use Rattle.sqlite_trees.specs.declared.store.Store.{Ghosts}
-use Rattle.sqlite.specs.Held.{Held, state}
+use Rattle.sqlite_disk.specs.declared.Disk as disk
+use Rattle.sqlite_store.specs.declared.store.FileStore.{FileStore}
+use Rattle.sqlite.specs.Files.{file_state, over_files}
+use Rattle.sqlite.specs.Held.{Held}
 use Rattle.sqlite.specs.State.{HasCleanDisk}
 use Rattle.tc_sql.specs.Builds.{no_schema}
 use Rattle.tc_types.specs.Counts.{no_counts}
@@ -15,10 +17,11 @@ use Rattle.tc_front.specs.Write.{Stream, Writes}
 use Rattle.tc_room.specs.Opening.{KeepsTables, LeavesOpening}
 use Rattle.tc_closed.specs.declared.scripts.ScriptFault.{ScriptFault}
 use Rattle.tc_closed.specs.declared.scripts.ScriptFault.TheVariants.{Output}
-use Rattle.tc_run.specs.Kept.{CutsOpening, StaysUnopened, opening_text}
+use Rattle.tc_run.specs.Kept.{CutsOpening, StaysInFiles, opening_text}
 use Rattle.tc_closed.specs.Scripts.{Ends, written_counts}
 use Rattle.tc_run.specs.Stops.{IsCutShort}
 use Rattle.tc_closed.proofs.EndsLemmas.{output_is_other}
+use Rattle.tc_run.proofs.CrashLemmas.{finds_again}
 
 -- the moves of an opening were written, or cut short where a write failed
 pub opening_told : {X : Type 0} (moves : List Move) (bytes : List ℕ) (old new : Stream) (result : Result X ScriptFault) → bytes ≡ opening_text moves
@@ -35,9 +38,12 @@ opening_told moves bytes old new (Err fault) are writes is counted =
       counted = counted;
     }
 
--- what a refused opening says of the database that it hands back
-pub stays : {S : Type 0} (g : Ghosts S) (config : configs.Config) (moment : ℕ) (store left : Held S)
-    → (HasCleanDisk (state g left) → IsTrue (state g left).is_open → KeepsTables (state g store).now (state g left).now)
-    → (HasCleanDisk (state g left) → LeavesOpening g config moment store left)
-    → ((state g store).now.schema ≢ no_schema → ((version : Version) → ¬ IsSchemaOf version (state g store).now.schema) → left ≡ store) → StaysUnopened g config moment store left
-stays g config moment store left kept crash foreign = record { kept = kept; crash = crash; foreign = foreign }
+-- what a refused opening says of the files that it hands back
+pub stays_in_files : {X E D : Type 0} {h : disk.Ghosts D} (config : configs.Config) (moment : ℕ) (store : Held (FileStore D h)) (left : E → Held (FileStore D h)) (result : Result X E)
+    → IfErr result (λ e. HasCleanDisk (file_state (left e)) → IsTrue (file_state (left e)).is_open → KeepsTables (file_state store).now (file_state (left e)).now)
+    → IfErr result (λ e. HasCleanDisk (file_state (left e)) → LeavesOpening over_files config moment store (left e))
+    → IfErr result (λ e. (file_state store).now.schema ≢ no_schema → ((version : Version) → ¬ IsSchemaOf version (file_state store).now.schema) → left e ≡ store)
+    → IfErr result (λ e. StaysInFiles config moment store (left e))
+stays_in_files config moment store left (Ok x) kept crash foreign = tt
+stays_in_files config moment store left (Err e) kept crash foreign =
+    record { stays = record { kept = kept; crash = crash; foreign = foreign }; found = λ last again. finds_again last store again }

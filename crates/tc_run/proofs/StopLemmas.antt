@@ -13,12 +13,14 @@ use Rattle.tc_types.specs.declared.acts.Query.TheVariants as query
 use Rattle.tc_types.specs.Loads.{LoadLine}
 use Rattle.tc_types.specs.declared.refusals.Refusal.{Refusal}
 use Rattle.tc_types.specs.declared.refusals.Refusal.TheVariants as refusal
+use Rattle.tc_desk.specs.Promise.{KeepsPromise}
 use Rattle.tc_desk.specs.Replies.{Reply}
 use Rattle.tc_world.specs.Config.{IsConfig}
+use Rattle.tc_world.specs.EitherLink.{either}
 use Rattle.tc_world.specs.declared.configs.Config as configs
 use Rattle.tc_store.specs.Ledgers.{KeptAnswer}
 use Rattle.tc_room.specs.Answers.{AsksPlaces, RefusesWith}
-use Rattle.tc_room.specs.Joined.{HoldsBook, Standing}
+use Rattle.tc_room.specs.Joined.{HoldsBook, Standing, desk_in}
 use Rattle.tc_room.specs.Loads.{RoomLoad, loader_of}
 use Rattle.tc_room.specs.Replies.{AreLines, ended}
 use Rattle.tc_room.specs.Room.{IsJustOpened}
@@ -283,7 +285,7 @@ stops_unread echo config (Some input) p w fault is = (input, refl, inl (inl is, 
 
 -- a run that stopped after some of its lines
 pub run_stopped : (echo : Bool) (config : configs.Config) (lines : List (List ℕ)) (start after : Standing MemStore) (gave gives : Option (List FileAnswer)) (old new : Option (List ℕ)) (fault : ScriptFault)
-    → IsJustOpened over_memory config start → StopsAfter over_memory echo fault start lines gave gives old new after → Stops echo config fault lines gave gives old new
-run_stopped echo config lines start after gave gives old new fault opened stops = inr (start, after, opened, stops)
+    → IsJustOpened over_memory config start → StopsAfter over_memory echo fault start lines gave gives old new after → KeepsPromise either (desk_in after) → Stops echo config fault lines gave gives old new
+run_stopped echo config lines start after gave gives old new fault opened stops promise = inr (start, after, opened, stops, promise)
 
 -- ---- faults

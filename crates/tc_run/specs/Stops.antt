@@ -7,13 +7,15 @@ use Rattle.sqlite.specs.Held.{state}
 use Rattle.sqlite.specs.State.{HasCleanDisk}
 use Rattle.sqlite.specs.Steps.{over_memory}
 use Rattle.tc_types.specs.Loads.{LoadLine}
+use Rattle.tc_desk.specs.Promise.{KeepsPromise}
 use Rattle.tc_desk.specs.Replies.{Reply}
 use Rattle.tc_world.specs.Config.{IsConfig}
+use Rattle.tc_world.specs.EitherLink.{either}
 pub use Rattle.tc_front.specs.Write.{IsCutShort}
 use Rattle.tc_world.specs.declared.configs.Config as configs
 use Rattle.tc_store.specs.Ledgers.{KeptAnswer}
 use Rattle.tc_room.specs.Answers.{AsksPlaces}
-use Rattle.tc_room.specs.Joined.{HoldsBook, Standing}
+use Rattle.tc_room.specs.Joined.{HoldsBook, Standing, desk_in}
 use Rattle.tc_room.specs.Replies.{ended}
 use Rattle.tc_room.specs.Room.{IsJustOpened}
 use Rattle.tc_closed.specs.Files.{FileAnswer, Gives, none_at}
@@ -100,9 +102,10 @@ pub record IsUnopened (config : configs.Config) (fault : ScriptFault) : Type 0 w
 
 -- ---- in memory
 
--- The run of these lines stopped before the first, or after some of them, in a room that was just opened over a new database in memory.
+-- The run of these lines stopped before the first, or after some of them, in a room that was just opened over a new database in memory; and README's promise is
+-- kept where it stopped.
 abbrev pub Stops : Bool → configs.Config → ScriptFault → List (List ℕ) → Option (List FileAnswer) → Option (List FileAnswer) → Option (List ℕ) → Option (List ℕ) → Type 0
 Stops echo config fault lines gave gives old new =
     ((IsUnread fault ⊎ IsUnopened config fault) × IsUntouched gave gives old new)
     ⊎ ((start : Standing MemStore) × (after : Standing MemStore) × IsJustOpened over_memory config start
-    × StopsAfter over_memory echo fault start lines gave gives old new after)
+    × StopsAfter over_memory echo fault start lines gave gives old new after × KeepsPromise either (desk_in after))

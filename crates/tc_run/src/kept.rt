@@ -4,10 +4,13 @@ ghost use Rattle.tc_run.specs.Kept.{RunsKept, RunsOpened, StopsKept, StopsOpened
 ghost use Rattle.tc_check.specs.Scripts.{script_lines};
 ghost use Rattle.tc_closed.specs.Scripts.{Ends};
 
+use crate::files::open_files;
 use crate::moments::latest_moment;
 use crate::opened::{Opening, tell_moves};
 use crate::run::run_room;
 use sqlite::{Alter, Connection};
+use sqlite_disk::Disk;
+use sqlite_store::FileStore;
 use std::alloc::Global;
 use std::io::Write;
 use tc_closed::{Paths, ScriptFault, Watch};
@@ -32,28 +35,30 @@ fn run_opened<S: Alter + Drop, P: Paths, T: Watch, W: Write>(
     run_room(alloc, room, text, paths, watch, writer)
 }
 
-/// Runs the lines of a script, that was read, on the desk that is kept in a database, opened at a moment: writes the moves that the
+/// Runs the lines of a script, that was read, on the desk that two files keep, opened at a moment: writes the moves that the
 /// opening made, what the lines are answered, and at the end what `places` is answered. Gives the exit status, as
 /// `run_script` does, and the connection, also with a fault. Where the desk could not be opened the fault is `Tables`, `Memory`, or, exactly where
 /// there is no such desk, `Config`; nothing was written, and the tables are as they were. Where the run stopped in the room, the tables are those
 /// that the lines before made, and no such fault comes any more.
-pub fn run_kept<S: Alter + Drop, P: Paths, T: Watch, W: Write>(
+pub fn run_kept<D: Disk + Drop, P: Paths, T: Watch, W: Write>(
     alloc: Global,
-    store: Connection<S>,
+    store: Connection<FileStore<D>>,
     opening: &Opening,
     text: &[u8],
     paths: &mut P,
     watch: &T,
     writer: &mut Counted<W>,
-) -> (Result<u8, ScriptFault>, Connection<S>)
-    ensures { Ends (λ status. RunsKept S.Store (T.echoes watch.now) opening.now.config opening.now.moment store text.now status (P.given paths.old) (P.given paths.new) (W.contents (inner_of writer.old)) (W.contents (inner_of writer.new)) result.1)
-        (λ fault. StopsKept S.Store (T.echoes watch.now) opening.now.config opening.now.moment store fault (script_lines text.now) (P.given paths.old) (P.given paths.new) (W.contents (inner_of writer.old)) (W.contents (inner_of writer.new)) result.1) (counts_of writer.old) (counts_of writer.new) result.0 }
+) -> (Result<u8, ScriptFault>, Connection<FileStore<D>>)
+    ensures { Ends (λ status. RunsKept (T.echoes watch.now) opening.now.config opening.now.moment store text.now status (P.given paths.old) (P.given paths.new) (W.contents (inner_of writer.old)) (W.contents (inner_of writer.new)) result.1)
+        (λ fault. StopsKept (T.echoes watch.now) opening.now.config opening.now.moment store fault (script_lines text.now) (P.given paths.old) (P.given paths.new) (W.contents (inner_of writer.old)) (W.contents (inner_of writer.new)) result.1) (counts_of writer.old) (counts_of writer.new) result.0 }
 {
-    match Room::open(alloc, store, opening.config, opening.moment) {
+    match open_files(alloc, store, opening) {
         Ok(opened) => {
             let OpenedRoom { mut room, moves } = opened;
             watch.opened(opening.moment, latest_moment(&room));
             let ended = run_opened(alloc, &mut room, &moves, text, paths, watch, writer);
+            // read for the proof alone: the promise is kept, also where the run stopped
+            let _opened = room.opened();
             (ended, room.into_connection())
         }
         Err((refusal, store)) => (Err(ScriptFault::from(refusal)), store),

@@ -2,15 +2,13 @@
 //! source of files are whatever the caller has.
 #![tactic(auto)]
 
+mod files;
 mod kept;
-pub mod laws;
 mod moments;
-mod numbered;
 mod opened;
 mod run;
 
 pub use kept::run_kept;
 pub use moments::{last_moment, latest_moment};
-pub use numbered::{NumberedLine, numbered_lines};
 pub use opened::{Opening, Unopened, open_told};
 pub use run::{exchange, run_script};

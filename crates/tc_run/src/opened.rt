@@ -3,11 +3,14 @@ ghost use Rattle.std.specs.Prelude.{◌≡◌, ◌≢◌, ℕ, List, Err, IfErr,
 ghost use Rattle.std.specs.Io.KnownBytes.{Appends};
 ghost use Rattle.tc_types.specs.Counts.{counts_of, inner_of, no_counts};
 ghost use Rattle.tc_types.specs.declared.history.moves.Move.{Move};
-ghost use Rattle.tc_room.specs.Opening.{OpensAs};
+ghost use Rattle.tc_run.specs.Crash.{OpensFiles};
 ghost use Rattle.tc_run.specs.Kept.{CutsOpening, StopsTold, opening_text};
 ghost use Rattle.tc_closed.specs.Scripts.{Ends, written_counts};
 
+use crate::files::open_files;
 use sqlite::{Alter, Connection};
+use sqlite_disk::Disk;
+use sqlite_store::FileStore;
 use std::alloc::Global;
 use std::io::Write;
 use tc_closed::{ScriptFault, put};
@@ -44,22 +47,22 @@ pub(crate) fn tell_moves<W: Write>(
     put(writer, told.as_bytes())
 }
 
-/// Opens the desk that is kept in a database at a moment, and writes the moves that the opening made, as the run of a script does. Where it
+/// Opens the desk that two files keep at a moment, and writes the moves that the opening made, as the run of a script does. Where it
 /// could not be opened the fault is `Tables`, `Memory`, or, exactly where there is no such desk, `Config`; nothing was written, and the tables are
 /// as they were. Where its moves could not be written it is `Output` or `Memory`, and they stand in the tables.
-pub fn open_told<S: Alter + Drop, W: Write>(
+pub fn open_told<D: Disk + Drop, W: Write>(
     alloc: Global,
-    store: Connection<S>,
+    store: Connection<FileStore<D>>,
     opening: &Opening,
     writer: &mut Counted<W>,
-) -> Result<Room<S>, Unopened<S>>
-    ensures told { IfOk result (λ room. (moves : List Move) × OpensAs S.Store opening.now.config opening.now.moment store moves room
+) -> Result<Room<FileStore<D>>, Unopened<FileStore<D>>>
+    ensures told { IfOk result (λ room. (moves : List Move) × OpensFiles opening.now.config opening.now.moment store moves room
         × Appends (W.contents (inner_of writer.old)) (W.contents (inner_of writer.new)) (opening_text moves)) }
     ensures unwritten { counts_of writer.old ≡ no_counts → OnOk result (counts_of writer.new ≡ no_counts) }
-    ensures stopped { IfErr result (λ left. StopsTold S.Store opening.now.config opening.now.moment store left.fault (W.contents (inner_of writer.old)) (W.contents (inner_of writer.new)) left.store) }
+    ensures stopped { IfErr result (λ left. StopsTold opening.now.config opening.now.moment store left.fault (W.contents (inner_of writer.old)) (W.contents (inner_of writer.new)) left.store) }
     ensures fault { IfErr result (λ left. (left.fault ≢ ScriptFault.Script) × (counts_of writer.old ≡ no_counts → counts_of writer.new ≡ written_counts {X = ⊤} (Err left.fault))) }
 {
-    match Room::open(alloc, store, opening.config, opening.moment) {
+    match open_files(alloc, store, opening) {
         Ok(opened) => {
             let OpenedRoom { room, moves } = opened;
             match tell_moves(alloc, &moves, writer) {

@@ -76,7 +76,10 @@ fn run_text<P: Paths, T: Watch, W: Write>(
         (λ fault. Stops (T.echoes watch.now) config fault (script_lines text.now) (P.given paths.old) (P.given paths.new) (W.contents (inner_of writer.old)) (W.contents (inner_of writer.new))) (counts_of writer.old) (counts_of writer.new) result }
 {
     let mut room = Room::open_in_memory(alloc, config)?;
-    run_room(alloc, &mut room, text, paths, watch, writer)
+    let ended = run_room(alloc, &mut room, text, paths, watch, writer);
+    // read for the proof alone: the promise is kept, also where the run stopped
+    let _opened = room.opened();
+    ended
 }
 
 /// Runs the lines of a script in a room, and asks the question `places`.

@@ -2,10 +2,12 @@
 #![tactic(auto)]
 
 mod arguments;
+mod carrying;
 mod commands;
 mod given;
 mod lines;
 mod reading;
 
+pub use carrying::{Program, carry_out};
 pub use lines::{CommandLine, Service, Telling, UsageFault};
 pub use reading::read_words;

@@ -99,6 +99,17 @@ enum Scenario {
     StartsAt(u8, Directive, bool),
 }
 
+/// Checks that this holds, or else says what does not. Assertions stand here and in the one below alone: one takes a second to
+/// prove, and a call next to nothing.
+fn check(rt: &impl Abort, holds: bool, what: &str) {
+    assert!(rt; holds, "{what}");
+}
+
+/// Checks that this holds at this place, or of this many.
+fn check_at(rt: &impl Abort, holds: bool, what: &str, place: usize) {
+    assert!(rt; holds, "{what}: {place}");
+}
+
 /// The number of a request.
 fn number(rt: &impl Abort, n: u32) -> RequestNumber {
     RequestNumber::new(n).expect(rt, "a number of a request")
@@ -281,8 +292,8 @@ fn over_lists(
 /// Makes events happen, none of which is refused.
 fn all_happen<L: Link>(rt: &impl Abort, link: &mut L, events: &[Event]) {
     let end = link.does_all(events);
-    assert!(rt; end.refusal.is_none());
-    assert_eq!(rt; end.done, events.len());
+    check_at(rt, end.refusal.is_none(), "one is refused after", end.done);
+    check(rt, end.done == events.len(), "all happen");
 }
 
 /// Makes an act happen so many times.
@@ -322,10 +333,10 @@ fn check_session<L: Link>(rt: &impl Abort, link: &L, place: usize, first: u32, c
 
 /// Checks that these are the requests from one number on.
 fn check_from(rt: &impl Abort, requests: &[RequestNumber], first: u32, count: usize, what: &str) {
-    assert!(rt; requests.len() == count, "{what}");
+    check(rt, requests.len() == count, what);
     let mut next = first;
     for request in requests {
-        assert!(rt; request.get() == next, "{what}");
+        check(rt, request.get() == next, what);
         next = next.saturating_add(1);
     }
 }

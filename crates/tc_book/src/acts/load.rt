@@ -1,5 +1,5 @@
 //! The load of a stack: all its rows are entered, or none.
-ghost use Rattle.std.specs.Prelude.{◌≡◌, ◌+◌, ◌*◌, ◌<◌, ◌≤◌, ◌==◌, ◌||◌, ℕ, List, [], length, map, count_by, false};
+ghost use Rattle.std.specs.Prelude.{◌≡◌, ◌+◌, ◌*◌, ◌<◌, ◌≤◌, ◌==◌, ◌||◌, ℕ, List, [], length, map, count_by, false, OnOk};
 ghost use Rattle.std.specs.List.{AllByRecursion, sum_by};
 ghost use Rattle.tc_types.specs.Limits.{most_requests};
 ghost use Rattle.tc_types.specs.Schedule.{targets_of, ridden};
@@ -7,9 +7,11 @@ ghost use Rattle.tc_stack.specs.declared.stacks.StackRow.{StackRow as SomeRow};
 ghost use Rattle.tc_stack.specs.Stacks.{IsStack};
 ghost use Rattle.tc_book.specs.declared.stamps.Stamp.{Stamp as SomeStamp};
 ghost use Rattle.tc_book.specs.Answers.{LoadAnswers, IsLoaded};
-ghost use Rattle.tc_book.specs.Book.{is_identity_in_use, has_all_rows};
+ghost use Rattle.tc_book.specs.Batch.{GoesOn};
+ghost use Rattle.tc_book.specs.Book.{Book, is_identity_in_use, has_all_rows};
 ghost use Rattle.tc_book.specs.Cargoes.{behind_first};
 ghost use Rattle.tc_book.specs.Good.{IsGoodBook, IsGoodOrigin};
+ghost use Rattle.tc_book.specs.Interlocks.{AreRowsFrom};
 ghost use Rattle.tc_book.specs.Loads.{IsWithin, ride_from, command_from, entry_from, origin_of, with_row, loaded, identity_behind, takes_identity_in_use, has_all_stacks, passes_requests};
 ghost use Rattle.tc_book.specs.Places.{stack_names};
 ghost use Rattle.tc_book.specs.Records.{Becomes};
@@ -209,7 +211,10 @@ pub fn load<A: Allocator + Copy + Drop>(
     stack: &Stack,
 ) -> Result<Draft<A>, Refusal>
     // one row after the other, each in a good book
-    ensures { IsLoaded (LoadAnswers (λ draft. draft.first) records.old.book stamp name stack.now records.new.book result) stamp records.old.book records.new.book result }
+    ensures loaded { IsLoaded (LoadAnswers (λ draft. draft.first) records.old.book stamp name stack.now records.new.book result) stamp records.old.book records.new.book result }
+    // its lines are then requests, one after the other, each of which waits for the line that its row names; and so from then on
+    ensures rows { OnOk result (AreRowsFrom (length records.old.book.requests + 1) stack.now records.new.book) }
+    ensures stays { OnOk result ((later : Book) → GoesOn records.new.book later → AreRowsFrom (length records.old.book.requests + 1) stack.now later) }
 {
     let rows = stack.rows();
     if records.is_loaded(&name) {

@@ -5,6 +5,7 @@ ghost use Rattle.tc_proc.specs.Logs.{empty_log};
 ghost use Rattle.tc_book.specs.Acts.{first_refusal, approval_tests, completes, approvals_first, row_approved, rows_approved};
 ghost use Rattle.tc_book.specs.Book.{request_at};
 ghost use Rattle.tc_book.specs.Good.{IsGoodBook};
+ghost use Rattle.tc_book.specs.Interlocks.{IsHeldByRule};
 ghost use Rattle.tc_book.specs.Loads.{has_all_stacks};
 ghost use Rattle.tc_book.specs.Records.{Becomes};
 ghost use Rattle.tc_book.specs.Stacks.{is_loaded, is_in_stack, came_with_stack, stack_approval_at, stack_approvers_of, with_stack_approval, is_stack_approved, is_held_back, is_interlocked};
@@ -63,8 +64,11 @@ impl<A: Allocator + Copy + Drop> Records<A> {
     }
 
     /// Whether request `n` came with a stack and waits there for a line that is not completed.
+    #[tactic(auto, using(crate::proofs::InterlockLemmas::held_by_rule))]
     pub fn is_interlocked(&self, n: u32) -> bool
-        ensures { result ≡ is_interlocked self.now.book n }
+        ensures held { result ≡ is_interlocked self.now.book n }
+        // where the rows of a stack stand in the book, this is the rule of stacks
+        ensures rule { IsHeldByRule self.now.book n result }
     {
         match self.request(n) {
             Some(request) => is_held_back(&self.history, n, request.origin),

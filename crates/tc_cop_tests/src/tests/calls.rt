@@ -1,6 +1,6 @@
 //! The calls of a FOP as data.
 use super::ends::{OnGround, PutsOut};
-use super::{body, number};
+use super::{body, check, check_part, number};
 use std::process::Abort;
 use tc_farm::Clcw;
 use tc_fop::FopView;
@@ -8,7 +8,7 @@ use tc_fop::signals::Indication;
 use tc_types::{Directive, Frame, Refusal};
 
 /// One call of a FOP.
-#[derive(Clone, Copy, Debug)]
+#[derive(Clone, Copy)]
 pub enum Call {
     /// Offers the request of this number.
     Offer(u32),
@@ -63,19 +63,25 @@ pub fn done<G: OnGround>(rt: &impl Abort, fop: &mut G, call: Call) -> Result<G::
 }
 
 /// Checks that a call is refused so.
-pub fn check_refused<G: OnGround>(rt: &impl Abort, fop: &mut G, call: Call, refusal: Refusal) {
-    let answer = done(rt, fop, call).err();
-    assert!(rt; answer == Some(refusal), "{call:?} answers {answer:?}");
+pub fn check_refused<G: OnGround>(
+    rt: &impl Abort,
+    fop: &mut G,
+    call: Call,
+    refusal: Refusal,
+    what: &str,
+) {
+    let is_so = done(rt, fop, call).err() == Some(refusal);
+    check(rt, is_so, what);
 }
 
 /// Checks how an offer would be refused now.
-pub fn check_offer<G: OnGround>(rt: &impl Abort, fop: &G, refusal: Option<Refusal>) {
-    assert_eq!(rt; fop.would_refuse(), refusal);
+pub fn check_offer<G: OnGround>(rt: &impl Abort, fop: &G, refusal: Option<Refusal>, what: &str) {
+    check(rt, fop.would_refuse() == refusal, what);
 }
 
 /// Checks the variables.
 pub fn check_view<G: OnGround>(rt: &impl Abort, fop: &G, view: &FopView, what: &str) {
-    assert_eq!(rt; fop.variables(), *view, "{what}");
+    check_part(rt, fop.variables() == *view, "variables", what);
 }
 
 /// Makes calls, none of which is refused.
@@ -94,8 +100,8 @@ pub fn check_output<S: PutsOut>(
     indications: &[Indication],
     what: &str,
 ) {
-    assert!(rt; out.sent() == frames, "frames at {what}");
-    assert!(rt; out.indicated() == indications, "indications at {what}");
+    check_part(rt, out.sent() == frames, "frames", what);
+    check_part(rt, out.indicated() == indications, "indications", what);
 }
 
 /// Makes a call, and checks its whole output.

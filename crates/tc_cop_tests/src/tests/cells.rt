@@ -5,7 +5,7 @@ use super::stops::{IGNORED_IN_S5, IN_S5, LIMITS, STOPS, Stop};
 use super::tables::{
     ACKNOWLEDGES, ALL_AGAIN, BEGINS, Case, Flown, IGNORED, Indicated, LEFT, NO_MORE, STOPPED, Start,
 };
-use super::{ad, number};
+use super::{ad, check_part, number};
 use std::alloc::Global;
 use std::process::Abort;
 use std::test::Fail;
@@ -48,6 +48,17 @@ fn calls_to(start: Start) -> &'static [Call] {
     }
 }
 
+/// The name of what is put out from this state.
+fn output_from(start: Start) -> &'static str {
+    match start {
+        Start::S1 => "the output from S1",
+        Start::S2 => "the output from S2",
+        Start::S3 => "the output from S3",
+        Start::S4 => "the output from S4",
+        Start::S5 => "the output from S5",
+    }
+}
+
 /// Whether these frames are put out.
 fn are_sent(rt: &impl Abort, frames: &[Frame], want: &[Flown]) -> bool {
     let mut equal = frames.len() == want.len();
@@ -76,15 +87,9 @@ fn check_case<G: OnGround>(
     all_done(rt, fop, calls_to(start))?;
     all_done(rt, fop, case.then)?;
     let out = done(rt, fop, case.call)?;
-    let (sent, indicated) = (
-        are_sent(rt, out.sent(), case.frames),
-        are_indicated(rt, out.indicated(), case.indicated),
-    );
-    assert!(rt;
-        sent && indicated,
-        "{} in {start:?}: {sent} {indicated}",
-        case.row
-    );
+    let is_put_out = are_sent(rt, out.sent(), case.frames)
+        && are_indicated(rt, out.indicated(), case.indicated);
+    check_part(rt, is_put_out, output_from(start), case.row);
     check_view(rt, fop, &case.view, case.row);
     Ok(())
 }

@@ -1,4 +1,5 @@
 //! The FARM at every number against the table as a plain program.
+use super::check_at;
 use super::ends::OnBoard;
 use super::windows::{comes_to, takes};
 use std::process::Abort;
@@ -48,26 +49,31 @@ fn agrees<F: OnBoard>(
         && farm.variables() == after
 }
 
-/// Checks FARMs of this width in this state at every number and every V(R), with and without a free buffer.
-fn check_agreement(rt: &impl Abort, w: u16, state: FarmState) {
+/// Checks FARMs of this width in this state at every number and every V(R), with and without a free buffer. What is told is
+/// the number, and 256 times V(R), and 65,536 more where a buffer is free.
+fn check_agreement(rt: &impl Abort, w: u16, state: FarmState, what: &str) {
     for place in 0..131_072_u32 {
         let free_buffer = place >= 65_536;
         let ns = (place % 256) as u8;
         let vr = (place / 256 % 256) as u8;
         let mut farm = Farm::new(w).expect(rt, "a width");
         let agreed = agrees(rt, &mut farm, state, vr, ns, free_buffer);
-        assert!(rt;
-            agreed,
-            "{w} in {state:?}: {ns} at {vr}, buffer {free_buffer}"
-        );
+        check_at(rt, agreed, what, place);
     }
 }
 
 #[test]
 fn every_number(rt: HostRuntime) {
-    for w in [2, 4, 20, 128, 252, 254] {
-        check_agreement(&rt, w, FarmState::Open);
-        check_agreement(&rt, w, FarmState::Wait);
-        check_agreement(&rt, w, FarmState::Lockout);
+    for (w, what) in [
+        (2, "W = 2"),
+        (4, "W = 4"),
+        (20, "W = 20"),
+        (128, "W = 128"),
+        (252, "W = 252"),
+        (254, "W = 254"),
+    ] {
+        check_agreement(&rt, w, FarmState::Open, what);
+        check_agreement(&rt, w, FarmState::Wait, what);
+        check_agreement(&rt, w, FarmState::Lockout, what);
     }
 }

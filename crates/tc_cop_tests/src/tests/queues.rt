@@ -1,8 +1,8 @@
 //! The Sent_Queue beside a plain one, a list of the frames that are out, over random calls: what is confirmed, what is in
 //! doubt and what is sent again is what the plain one has, from the front.
-use super::ad;
 use super::calls::{Call, done};
 use super::ends::{OnGround, PutsOut, fop};
+use super::{ad, check, check_at};
 use std::alloc::Global;
 use std::collections::VecDeque;
 use std::process::Abort;
@@ -62,7 +62,7 @@ fn is_of(frame: &Frame, request: RequestNumber) -> bool {
 /// Takes the front of the plain queue: it is the frame of this request.
 fn takes_front(rt: &impl Abort, plain: &mut Plain, request: RequestNumber) {
     let front = plain.frames.pop_front().expect(rt, "a front");
-    assert!(rt; is_of(&front, request), "{}", request.get());
+    check_at(rt, is_of(&front, request), "the front", request.get());
 }
 
 /// Follows what was indicated; answers whether a request was sent.
@@ -87,10 +87,10 @@ fn follows(rt: &impl Abort, plain: &mut Plain, indications: &[Indication]) -> bo
 
 /// Checks that these are all frames of the plain queue, from the front.
 fn check_all(rt: &impl Abort, plain: &mut Plain, frames: &[Frame]) {
-    assert_eq!(rt; frames.len(), plain.frames.len());
+    check(rt, frames.len() == plain.frames.len(), "all are sent again");
     for (place, frame) in frames.iter().enumerate() {
-        let held = plain.frames.get(place).expect(rt, "as many");
-        assert!(rt; *held == *frame, "at {place}");
+        let is_held = plain.frames.get(place) == Some(frame);
+        check_at(rt, is_held, "a frame sent again behind", plain.again);
         plain.again = plain.again.saturating_add(1);
     }
 }
@@ -106,7 +106,7 @@ fn follows_output<S: PutsOut>(
 ) -> Result<(), Fail> {
     let is_sent = follows(rt, plain, out.indicated());
     let Some((last, others)) = out.sent().split_last() else {
-        assert!(rt; !is_sent);
+        check(rt, !is_sent, "a request is sent in a frame");
         return Ok(());
     };
     if !is_sent {
@@ -117,7 +117,7 @@ fn follows_output<S: PutsOut>(
         check_all(rt, plain, others);
     }
     let fresh = ad(rt, vs, due);
-    assert!(rt; *last == fresh, "{due}");
+    check_at(rt, *last == fresh, "a new frame", due);
     plain.frames.push_back(fresh)?;
     Ok(())
 }
@@ -178,7 +178,7 @@ fn turns<G: OnGround>(
         }
     }
     let out = usize::from(fop.variables().sent);
-    assert_eq!(rt; out, plain.frames.len());
+    check(rt, out == plain.frames.len(), "as many are out");
     Ok(())
 }
 
@@ -201,9 +201,9 @@ fn compares<G: OnGround>(
     for _ in 0..calls {
         turns(rt, fop, &mut dice, &mut plain)?;
     }
-    assert!(rt; plain.confirmed > 9, "{} confirmed", plain.confirmed);
-    assert!(rt; plain.doubted > 9, "{} in doubt", plain.doubted);
-    assert!(rt; plain.again > 9, "{} again", plain.again);
+    check_at(rt, plain.confirmed > 9, "confirmed", plain.confirmed);
+    check_at(rt, plain.doubted > 9, "in doubt", plain.doubted);
+    check_at(rt, plain.again > 9, "sent again", plain.again);
     Ok(())
 }
 

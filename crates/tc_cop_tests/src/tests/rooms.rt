@@ -1,7 +1,7 @@
 //! Where memory is refused nothing changes, and what was reserved is there.
 use super::calls::{Call, all_done, check_call, check_output, check_refused, check_view, done};
 use super::ends::{OnGround, fop, refusal_to_make};
-use super::{ad, number};
+use super::{ad, check, check_at, number};
 use linked_list_allocator::LocalHeap;
 use std::alloc::Global;
 use std::process::Abort;
@@ -27,7 +27,7 @@ fn size_at(place: usize) -> usize {
 
 /// Checks that this refusal is one of memory, and that nothing changed.
 fn check_unchanged<G: OnGround>(rt: &impl Abort, fop: &G, before: &FopView, refusal: Refusal) {
-    assert!(rt; refusal == Refusal::Memory, "{refusal:?}");
+    check(rt, refusal == Refusal::Memory, "another refusal");
     check_view(rt, fop, before, "a call that was refused memory");
 }
 
@@ -47,7 +47,7 @@ fn squeezed<G: OnGround>(
         };
         match done(rt, fop, call) {
             Ok(out) => {
-                assert!(rt; refused > 4);
+                check_at(rt, refused > 4, "refused", refused);
                 return Ok(out);
             }
             Err(refusal) => {
@@ -100,15 +100,15 @@ fn check_reserved<G: OnGround>(
     rt: &impl Abort,
     heap: &LocalHeap,
     fop: &mut G,
-    call: Call,
-    takes: bool,
+    (call, takes): (Call, bool),
+    place: u32,
 ) -> Result<(), Refusal> {
     fop.reserves()?;
     let taken = fill(heap);
     let out = done(rt, fop, call);
-    assert!(rt; out.is_ok(), "{call:?}");
+    check_at(rt, out.is_ok(), "has its memory", place);
     let is_taken = fop.reserves().is_err();
-    assert!(rt; is_taken == takes, "{call:?}");
+    check_at(rt, is_taken == takes, "takes it, or not", place);
     drop(taken);
     Ok(())
 }
@@ -133,8 +133,10 @@ fn check_all_reserved<G: OnGround>(
     fop: &mut G,
     calls: &[(Call, bool)],
 ) -> Result<(), Refusal> {
-    for (call, takes) in calls {
-        check_reserved(rt, heap, fop, *call, *takes)?;
+    let mut place = 0u32;
+    for call in calls {
+        check_reserved(rt, heap, fop, *call, place)?;
+        place = place.saturating_add(1);
     }
     Ok(())
 }
@@ -180,10 +182,11 @@ fn check_kept<G: OnGround>(rt: &impl Abort, heap: &LocalHeap, fop: &mut G) -> Re
     all_done(rt, fop, &[START, Call::Offer(1), Call::Offer(2)])?;
     fop.reserves()?;
     let taken = fill(heap);
-    check_refused(rt, fop, Call::Offer(3), Refusal::WaitQueueFull);
-    check_refused(rt, fop, START, Refusal::BadDirective);
+    let (full, late) = (Refusal::WaitQueueFull, Refusal::BadDirective);
+    check_refused(rt, fop, Call::Offer(3), full, "an offer");
+    check_refused(rt, fop, START, late, "a start");
     let out = done(rt, fop, Call::Invalid);
-    assert!(rt; out.is_ok(), "a call after refusals");
+    check(rt, out.is_ok(), "a call after refusals");
     drop(taken);
     Ok(())
 }
@@ -209,12 +212,13 @@ fn is_made_where_there_is_room(rt: HostRuntime) -> Result<(), Fail> {
         match refusal_in(rt.alloc(), size)? {
             None => made = made.saturating_add(1),
             Some(refusal) => {
-                assert!(rt; refusal == Refusal::Memory);
-                assert!(rt; made == 0, "{size} bytes refuse what fewer gave");
+                check(&rt, refusal == Refusal::Memory, "another refusal");
+                check_at(&rt, made == 0, "refuses what fewer gave", refused);
                 refused = refused.saturating_add(1);
             }
         }
     }
-    assert!(rt; refused > 4 && made > 4, "{refused} refuse, {made} do not");
+    check_at(&rt, refused > 4, "refused", refused);
+    check_at(&rt, made > 4, "made", made);
     Ok(())
 }

@@ -1,7 +1,7 @@
 //! Runs of a FOP with whole outputs, what it refuses, and numbers that go around.
 use super::calls::{Call, all_done, check_call, check_offer, check_refused, check_view, done};
 use super::ends::{OnGround, fop, refusal_to_make};
-use super::{ad, number};
+use super::{ad, check_at, number};
 use std::process::Abort;
 use std::test::Fail;
 use tc_fop::FopView;
@@ -31,8 +31,9 @@ fn fills<G: OnGround>(rt: &impl Abort, fop: &mut G) -> Result<(), Refusal> {
     let sent = [Indication::Sent(number(rt, 1))];
     check_call(rt, fop, Call::Offer(1), &[ad(rt, 0, 1)], &sent, "request 1")?;
     check_call(rt, fop, Call::Offer(2), &[], &[], "request 2")?;
-    check_offer(rt, fop, Some(Refusal::WaitQueueFull));
-    check_refused(rt, fop, Call::Offer(3), Refusal::WaitQueueFull);
+    let full = Refusal::WaitQueueFull;
+    check_offer(rt, fop, Some(full), "while one waits");
+    check_refused(rt, fop, Call::Offer(3), full, "request 3");
     Ok(())
 }
 
@@ -67,7 +68,7 @@ fn empties<G: OnGround>(rt: &impl Abort, fop: &mut G) -> Result<(), Refusal> {
     ];
     check_stop(rt, fop, &indicated)?;
     check_call(rt, fop, Call::Invalid, &[], &[], "another in S6")?;
-    check_offer(rt, fop, Some(Refusal::ServiceNotActive));
+    check_offer(rt, fop, Some(Refusal::ServiceNotActive), "in S6");
     Ok(())
 }
 
@@ -99,19 +100,21 @@ const LATE: [Directive; 5] = [
 ];
 
 /// Checks that these directives are refused now.
-fn check_bad<G: OnGround>(rt: &impl Abort, fop: &mut G, directives: &[Directive]) {
+fn check_bad<G: OnGround>(rt: &impl Abort, fop: &mut G, directives: &[Directive], what: &str) {
     for directive in directives {
-        check_refused(rt, fop, Call::Direct(*directive), Refusal::BadDirective);
+        let call = Call::Direct(*directive);
+        check_refused(rt, fop, call, Refusal::BadDirective, what);
     }
 }
 
 /// Checks what is refused before and after the start.
 fn check_refusals<G: OnGround>(rt: &impl Abort, fop: &mut G) -> Result<(), Refusal> {
-    check_refused(rt, fop, Call::Offer(1), Refusal::ServiceNotActive);
-    check_bad(rt, fop, &ZEROS);
+    let none = Refusal::ServiceNotActive;
+    check_refused(rt, fop, Call::Offer(1), none, "before the start");
+    check_bad(rt, fop, &ZEROS, "a zero");
     done(rt, fop, START)?;
-    check_bad(rt, fop, &LATE);
-    check_offer(rt, fop, None);
+    check_bad(rt, fop, &LATE, "after the start");
+    check_offer(rt, fop, None, "after the start");
     Ok(())
 }
 
@@ -119,7 +122,8 @@ fn check_refusals<G: OnGround>(rt: &impl Abort, fop: &mut G) -> Result<(), Refus
 fn refuses(rt: HostRuntime) -> Result<(), Fail> {
     for (k, t1, limit) in BAD {
         let refusal = refusal_to_make(rt.alloc(), *k, *t1, *limit);
-        assert!(rt; refusal == Some(Refusal::BadDirective), "{k} {t1} {limit}");
+        let is_so = refusal == Some(Refusal::BadDirective);
+        check_at(&rt, is_so, "a bad setting beside K", u32::from(*k));
     }
     let mut fop = fop(rt.alloc(), 1, 10, 3)?;
     check_refusals(&rt, &mut fop)?;

@@ -5,7 +5,7 @@ use tc_fop::signals::{AlertKind, FopState};
 use tc_types::Directive;
 
 /// The state before a call. In S1 to S3 requests 1 and 2 are out under the numbers 0 and 1, and 3 waits.
-#[derive(Clone, Copy, Debug)]
+#[derive(Clone, Copy)]
 pub enum Start {
     /// S1, as first transmitted.
     S1,

@@ -1,6 +1,6 @@
 //! The edges of the FARM's windows, and what control commands do to its control word.
-use super::ad;
 use super::ends::OnBoard;
+use super::{ad, check, check_at};
 use std::process::Abort;
 use tc_farm::{Farm, FarmState};
 use tc_types::Frame;
@@ -70,13 +70,18 @@ fn windows(rt: HostRuntime) {
         (254, 0, 129, false, false),
     ] {
         let discarded = is_discarded(&rt, &mut farm(&rt, w), vr, ns, locks, retransmit);
-        assert!(rt; discarded, "{ns} at {vr} of {w}");
+        check_at(&rt, discarded, "a frame at an edge", u32::from(ns));
     }
 }
 
 /// Checks the control word on channel 3.
 fn check_bits<F: OnBoard>(rt: &impl Abort, farm: &F, bits: u32, what: &str) {
-    assert_eq!(rt; farm.bits(), bits, "{what}");
+    check(rt, farm.bits() == bits, what);
+}
+
+/// Whether no FARM is made of this width.
+fn is_refused(w: u16) -> bool {
+    Farm::new(w).is_none()
 }
 
 /// Checks the word of a FARM that waits for a buffer.
@@ -84,9 +89,10 @@ fn check_waiting<F: OnBoard>(rt: &impl Abort, farm: &mut F) {
     comes_to(rt, farm, FarmState::Wait, 9);
     check_bits(rt, farm, 0x010c_1a09, "one command, waiting");
     farm.frees();
-    assert!(rt; farm.variables().state == FarmState::Open);
+    let is_open = farm.variables().state == FarmState::Open;
+    check(rt, is_open, "a freed buffer opens");
     check_bits(rt, farm, 0x010c_0a09, "Retransmit stays");
-    assert!(rt; takes(rt, farm, 9, true));
+    check(rt, takes(rt, farm, 9, true), "9 is taken");
     check_bits(rt, farm, 0x010c_020a, "10 is expected");
 }
 
@@ -96,7 +102,8 @@ fn check_locked<F: OnBoard>(rt: &impl Abort, farm: &mut F) {
     farm.accepts(Frame::SetVr(77), true);
     farm.frees();
     check_bits(rt, farm, 0x010c_2409, "two commands, locked out");
-    assert!(rt; !farm.accepts(Frame::Unlock, false));
+    let is_data = farm.accepts(Frame::Unlock, false);
+    check(rt, !is_data, "an Unlock is no data");
     check_bits(rt, farm, 0x010c_0609, "three commands, open");
 }
 
@@ -105,6 +112,6 @@ fn control_commands(rt: HostRuntime) {
     check_waiting(&rt, &mut farm(&rt, 20));
     check_locked(&rt, &mut farm(&rt, 20));
     for odd in [0, 1, 3, 255, 256] {
-        assert!(rt; Farm::new(odd).is_none(), "{odd}");
+        check_at(&rt, is_refused(odd), "a width is refused", u32::from(odd));
     }
 }

@@ -1,4 +1,5 @@
 //! Control words with their bits written out.
+use super::check;
 use std::process::Abort;
 use tc_farm::Clcw;
 
@@ -20,10 +21,10 @@ fn read(bits: u32, vc: u8) -> Option<Clcw> {
 }
 
 /// Checks that this control word is these bits, and that they are read back on its channel alone.
-fn check_bits(rt: &impl Abort, clcw: Clcw, bits: u32) {
-    assert_eq!(rt; clcw.word(), bits);
-    assert!(rt; read(bits, 3) == Some(clcw), "{bits}");
-    assert!(rt; read(bits, 4).is_none(), "another channel");
+fn check_bits(rt: &impl Abort, clcw: Clcw, bits: u32, what: &str) {
+    check(rt, clcw.word() == bits, what);
+    check(rt, read(bits, 3) == Some(clcw), what);
+    check(rt, read(bits, 4).is_none(), "another channel");
 }
 
 /// The control word with the flags Lockout and Retransmit on this channel, as 32 bits; 0 where there is no such channel.
@@ -36,21 +37,18 @@ fn bits_on(vc: u8) -> u32 {
 
 #[test]
 fn control_words(rt: HostRuntime) {
-    for (lockout, wait, retransmit, bits) in [
-        (false, false, false, 0x010c_0005),
-        (true, false, false, 0x010c_2005),
-        (false, true, false, 0x010c_1005),
-        (false, false, true, 0x010c_0805),
+    for (lockout, wait, retransmit, bits, what) in [
+        (false, false, false, 0x010c_0005, "no flag"),
+        (true, false, false, 0x010c_2005, "Lockout"),
+        (false, true, false, 0x010c_1005, "Wait"),
+        (false, false, true, 0x010c_0805, "Retransmit"),
     ] {
-        check_bits(&rt, reported(lockout, wait, retransmit), bits);
+        check_bits(&rt, reported(lockout, wait, retransmit), bits, what);
     }
-    assert!(rt; read(0x020c_0005, 3).is_none(), "another COP");
-    assert!(rt; read(0x5d0f_c105, 3).is_none(), "another version");
-    let ignored = read(0x1d0f_c105, 3);
-    assert!(rt;
-        ignored == Some(reported(false, false, false)),
-        "ignored bits"
-    );
-    assert_eq!(rt; bits_on(63), 0x01fc_2805);
-    assert_eq!(rt; bits_on(64), 0);
+    check(&rt, read(0x020c_0005, 3).is_none(), "another COP");
+    check(&rt, read(0x5d0f_c105, 3).is_none(), "another version");
+    let ignored = read(0x1d0f_c105, 3) == Some(reported(false, false, false));
+    check(&rt, ignored, "ignored bits");
+    check(&rt, bits_on(63) == 0x01fc_2805, "channel 63");
+    check(&rt, bits_on(64) == 0, "channel 64");
 }

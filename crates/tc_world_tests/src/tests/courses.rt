@@ -3,7 +3,7 @@
 //!
 //! Requests are offered in the order of their numbers, so that none is sent twice where the numbers rise over all
 //! sessions.
-use super::{UP, answers, flies, identity, lists, number, offer, skips};
+use super::{UP, answers, check, check_at, flies, identity, lists, number, offer, skips};
 use crate::links::{Link, Written};
 use std::process::Abort;
 use std::test::Fail;
@@ -54,11 +54,13 @@ struct Course {
 
 /// Checks the claims in a session, where the earlier sessions sent requests up to this one; answers the last.
 fn check_claims(rt: &impl Abort, session: &Written<'_>, earlier: u32) -> u32 {
-    assert!(rt; session.sent.starts_with(session.accepted));
-    assert!(rt; session.accepted.starts_with(session.confirmed));
+    let is_prefix = session.sent.starts_with(session.accepted);
+    check(rt, is_prefix, "accepted is a prefix of sent");
+    let is_prefix = session.accepted.starts_with(session.confirmed);
+    check(rt, is_prefix, "confirmed is a prefix of accepted");
     let mut last = earlier;
     for request in session.sent {
-        assert!(rt; last < request.get());
+        check(rt, last < request.get(), "none is sent twice");
         last = request.get();
     }
     last
@@ -66,7 +68,7 @@ fn check_claims(rt: &impl Abort, session: &Written<'_>, earlier: u32) -> u32 {
 
 /// Checks the claims in all sessions; answers how many requests were confirmed.
 fn check_all<L: Link>(rt: &impl Abort, link: &L) -> usize {
-    assert!(rt; link.is_clean());
+    check(rt, link.is_clean(), "clean");
     let mut last = 0;
     let mut confirmed = 0usize;
     for place in 0..link.sessions() {
@@ -90,7 +92,7 @@ fn offers_next<L: Link>(rt: &impl Abort, link: &mut L, course: &mut Course) {
     match refusal {
         None => course.next = course.next.saturating_add(1),
         Some(Refusal::WaitQueueFull) => {}
-        _ => assert!(rt; refusal == Some(Refusal::ServiceNotActive)),
+        _ => check(rt, refusal == Some(Refusal::ServiceNotActive), "an offer"),
     }
     check_all(rt, link);
 }
@@ -109,7 +111,7 @@ fn offers_again<L: Link>(rt: &impl Abort, link: &mut L, course: &mut Course) {
         return;
     };
     let is_refused = answers(link, offer(rt, request.get()), Some(Refusal::WrongPlace));
-    assert!(rt; is_refused, "{}", request.get());
+    check(rt, is_refused, "an offer again");
     course.again = course.again.saturating_add(1);
     check_all(rt, link);
 }
@@ -170,7 +172,7 @@ fn restarts<L: Link>(rt: &impl Abort, link: &mut L, course: &mut Course) -> Resu
     goes_on(rt, link, &UP, frames)?;
     goes_on(rt, link, &Event::Downlink, reports)?;
     goes_on(rt, link, &UP, link.in_flight().0)?;
-    assert!(rt; flies(link, 0));
+    check(rt, flies(link, 0), "all arrived");
     let farm = link.farm();
     goes(rt, link, Event::Directive(Directive::SetVs(farm.vr)))?;
     let first = start(&farm, &mut course.dice);
@@ -214,8 +216,8 @@ pub fn courses<L: Link>(
     for _ in 0..events {
         turns(rt, link, &mut course)?;
     }
-    assert!(rt; link.sessions() > 5, "{} sessions", link.sessions());
-    assert!(rt; course.again > 9, "{} again", course.again);
+    check_at(rt, link.sessions() > 5, "sessions", link.sessions());
+    check(rt, course.again > 9, "more than 9 are offered again");
     Ok((check_all(rt, link), course.alerts))
 }
 
@@ -234,8 +236,8 @@ fn the_claims_stand_over_100_000_events(rt: HostRuntime) -> Result<(), Fail> {
         confirmed = confirmed.saturating_add(counts.0);
         alerts = alerts.saturating_add(counts.1);
     }
-    assert!(rt; confirmed > 2_000, "{confirmed} confirmed");
-    assert!(rt; alerts > 9, "{alerts} alerts");
+    check_at(&rt, confirmed > 2_000, "confirmed over lists", confirmed);
+    check(&rt, alerts > 9, "more than 9 alerts");
     Ok(())
 }
 
@@ -247,6 +249,11 @@ fn the_claims_stand_over_links_that_skip(rt: HostRuntime) -> Result<(), Fail> {
         let counts = courses(&rt, &mut link, 2, 10_000)?;
         confirmed = confirmed.saturating_add(counts.0);
     }
-    assert!(rt; confirmed > 9, "{confirmed} confirmed");
+    check_at(
+        &rt,
+        confirmed > 9,
+        "confirmed over links that skip",
+        confirmed,
+    );
     Ok(())
 }

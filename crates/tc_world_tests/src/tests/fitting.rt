@@ -1,7 +1,7 @@
 //! Courses of one lost frame, of the limit, of the timer and of a full buffer, where K fits or not: after each act K has
 //! fitted or not, and the last start was level or not.
 use super::rings::rings_within;
-use super::{Act, CHECK, START, STOP, event, lists};
+use super::{Act, CHECK, START, STOP, check, check_at, event, lists};
 use crate::links::Link;
 use std::alloc::Global;
 use std::process::Abort;
@@ -187,9 +187,10 @@ const COURSES: &[Course] = &[
 
 /// Checks what the link says of K and of its starts.
 fn check_standing<L: Link>(rt: &impl Abort, link: &L, course: &Course) {
-    assert!(rt; link.is_clean());
-    assert!(rt; link.has_fitted() == course.fits);
-    assert!(rt; link.is_level() == (course.level && link.sessions() > 0));
+    check(rt, link.is_clean(), "clean");
+    check(rt, link.has_fitted() == course.fits, "fits, or not");
+    let is_level = course.level && link.sessions() > 0;
+    check(rt, link.is_level() == is_level, "level, or not");
 }
 
 /// Makes an act happen, and says which alert it tells.
@@ -214,10 +215,10 @@ fn plays_part<L: Link>(
     let (last, others) = acts.split_last().expect(rt, "an act");
     for act in others {
         let told = happens(rt, link, course, act)?;
-        assert!(rt; told.is_none(), "{told:?} within part {place}");
+        check_at(rt, told.is_none(), "an alert within part", place);
     }
     let told = happens(rt, link, course, last)?;
-    assert!(rt; told == *alert, "{told:?} at the end of part {place}");
+    check_at(rt, told == *alert, "the alert at the end of part", place);
     Ok(())
 }
 
@@ -228,9 +229,12 @@ fn plays<L: Link>(rt: &impl Abort, link: &mut L, course: &Course) -> Result<(), 
         plays_part(rt, link, course, part)?;
     }
     let is_locked = link.farm().state == FarmState::Lockout;
-    assert!(rt; (is_locked, link.fop().state) == course.end);
+    let (locked, state) = course.end;
+    check(rt, is_locked == locked, "locked, or not");
+    check(rt, link.fop().state == state, "the state at the end");
     let session = link.written(0).expect(rt, "a session");
-    assert_eq!(rt; session.confirmed.len(), course.confirmed);
+    let confirmed = session.confirmed.len();
+    check_at(rt, confirmed == course.confirmed, "confirmed", confirmed);
     Ok(())
 }
 
@@ -269,7 +273,7 @@ const SETTINGS: &[(u8, bool)] = &[(4, true), (1, true), (4, true), (5, false), (
 fn sets<L: Link>(rt: &impl Abort, link: &mut L) -> Result<(), Fail> {
     for (k, fits) in SETTINGS {
         link.does(event(rt, &Act::Directive(Directive::SetK(*k))))?;
-        assert!(rt; link.has_fitted() == *fits, "after {k}");
+        check_at(rt, link.has_fitted() == *fits, "after K", usize::from(*k));
     }
     Ok(())
 }

@@ -1,5 +1,8 @@
 //! A lock-out, and how the service comes back, with each control word bit by bit.
-use super::{Act, START, STOP, Scenario, UNLOCK, body, check_session, event, number, over_lists};
+use super::{
+    Act, START, STOP, Scenario, UNLOCK, body, check, check_at, check_session, event, number,
+    over_lists,
+};
 use crate::links::Link;
 use std::alloc::Global;
 use std::process::Abort;
@@ -174,7 +177,7 @@ fn word(rt: &impl Abort, lockout: bool, farm_b: u8, bits: u32) -> LinkIndication
         farm_b: farm_b % 4,
         report: 0,
     };
-    assert!(rt; clcw.word() == bits, "not {bits:x}");
+    check(rt, clcw.word() == bits, "the bits of a control word");
     LinkIndication::Received(Report::Word(bits))
 }
 
@@ -228,7 +231,7 @@ fn all_told<L: Link>(
 ) -> Result<(), Fail> {
     for (place, step) in steps.iter().enumerate() {
         let is_told = happens(rt, alloc, link, step)?;
-        assert!(rt; is_told, "{place} of {what}");
+        check_at(rt, is_told, what, place);
     }
     Ok(())
 }
@@ -242,8 +245,8 @@ fn is_open<L: Link>(link: &L) -> bool {
 /// Three sessions: nothing of the first was accepted, nothing was sent in the second, and the third has the fourth
 /// request.
 fn check_sessions<L: Link>(rt: &impl Abort, link: &L) {
-    assert!(rt; link.is_clean());
-    assert_eq!(rt; link.sessions(), 3);
+    check(rt, link.is_clean(), "clean");
+    check(rt, link.sessions() == 3, "three sessions");
     check_session(rt, link, 0, 1, [3, 0, 0]);
     check_session(rt, link, 1, 1, [0, 0, 0]);
     check_session(rt, link, 2, 4, [1, 1, 0]);
@@ -252,12 +255,14 @@ fn check_sessions<L: Link>(rt: &impl Abort, link: &L) {
 /// A lost frame locks the FARM, and the service comes back.
 pub fn comes_back<L: Link>(rt: &impl Abort, alloc: Global, link: &mut L) -> Result<(), Fail> {
     all_told(rt, alloc, link, LOSES, "the loss")?;
-    assert!(rt; link.farm().state == FarmState::Lockout);
+    let is_locked = link.farm().state == FarmState::Lockout;
+    check(rt, is_locked, "a lock-out");
     all_told(rt, alloc, link, LOCKS, "the lock-out")?;
     all_told(rt, alloc, link, UNLOCKS, "the Unlock")?;
-    assert!(rt; is_open(link));
+    check(rt, is_open(link), "open after the Unlock");
     all_told(rt, alloc, link, IGNORES, "the word")?;
-    assert!(rt; link.fop().state == FopState::InitialisingWithBc);
+    let is_beginning = link.fop().state == FopState::InitialisingWithBc;
+    check(rt, is_beginning, "S5 after the word");
     all_told(rt, alloc, link, GOES_ON, "the Set V(R)")?;
     check_sessions(rt, link);
     Ok(())

@@ -1,5 +1,8 @@
 //! Which refusal comes first.
-use super::{AMPLE, Act, CHECK, START, STOP, Scenario, acts, answers, event, lists, over_lists};
+use super::{
+    AMPLE, Act, CHECK, START, STOP, Scenario, acts, answers, check, check_at, event, lists,
+    over_lists,
+};
 use crate::links::Link;
 use linked_list_allocator::LocalHeap;
 use std::process::Abort;
@@ -37,7 +40,7 @@ const LATER: &[Tried] = &[
 fn tries<L: Link>(rt: &impl Abort, link: &mut L, tried: &[Tried], what: &str) {
     for (place, (act, refusal)) in tried.iter().enumerate() {
         let is_so = answers(link, event(rt, act), *refusal);
-        assert!(rt; is_so, "{place} {what}");
+        check_at(rt, is_so, what, place);
     }
 }
 
@@ -49,13 +52,13 @@ pub fn refuses<L: Link>(rt: &impl Abort, link: &mut L) {
 
 /// There is no session before the first start.
 pub fn begins_with_none<L: Link>(rt: &impl Abort, link: &mut L) {
-    assert_eq!(rt; link.sessions(), 0);
-    assert!(rt; link.written(0).is_none());
-    assert!(rt; link.written(usize::MAX).is_none());
+    check(rt, link.sessions() == 0, "no session");
+    check(rt, link.written(0).is_none(), "no first session");
+    check(rt, link.written(usize::MAX).is_none(), "no last session");
     acts(rt, link, &[CHECK]);
-    assert_eq!(rt; link.sessions(), 1);
-    assert!(rt; link.written(0).is_some());
-    assert!(rt; link.written(1).is_none());
+    check(rt, link.sessions() == 1, "one session");
+    check(rt, link.written(0).is_some(), "a first session");
+    check(rt, link.written(1).is_none(), "no second session");
 }
 
 /// Whether a world on this virtual channel is refused so, or made where there is no refusal.
@@ -77,7 +80,8 @@ fn has_channels_0_to_63(rt: HostRuntime) -> Result<(), Fail> {
         (64, Some(Refusal::BadDirective)),
         (255, Some(Refusal::BadDirective)),
     ] {
-        assert!(rt; answers_on(&heap, vc, refusal), "{vc}");
+        let is_so = answers_on(&heap, vc, refusal);
+        check_at(&rt, is_so, "channel", usize::from(vc));
     }
     Ok(())
 }

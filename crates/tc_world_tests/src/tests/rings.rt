@@ -1,5 +1,5 @@
 //! Rings beside a plain ring, and worlds over rings: random events, after each of which both have the same in flight.
-use super::{AMPLE, Act, START, acts, courses, event, flies, number, take_all_but, world};
+use super::{AMPLE, Act, START, acts, check, check_at, courses, event, flies, take_all_but, world};
 use crate::links::Link;
 use linked_list_allocator::LocalHeap;
 use std::alloc::{Allocator, Global};
@@ -90,20 +90,22 @@ fn turns<L: Line>(
     item: u32,
 ) -> Result<(), Fail> {
     let place = usize::try_from(dice.roll(10)).unwrap_or(0);
+    let at = usize::try_from(item).unwrap_or(0);
     match dice.roll(16) {
         0..=7 => {
             ring.puts(item);
             plain.puts(item)?;
         }
-        8..=11 => assert!(rt; ring.takes() == plain.takes(0), "take at {item}"),
+        8..=11 => check_at(rt, ring.takes() == plain.takes(0), "a take", at),
         12..=14 => {
             let is_lost = ring.loses(place);
-            assert!(rt; is_lost == plain.takes(place).is_some(), "lose at {item}");
+            let is_there = plain.takes(place).is_some();
+            check_at(rt, is_lost == is_there, "a loss", at);
         }
-        _ => assert!(rt; !ring.loses(plain.items.len()), "past the end at {item}"),
+        _ => check_at(rt, !ring.loses(plain.items.len()), "past the end", at),
     }
-    assert!(rt; ring.count() == plain.items.len(), "after {item}");
-    assert!(rt; ring.is_bare() == plain.items.is_empty(), "after {item}");
+    check_at(rt, ring.count() == plain.items.len(), "how many", at);
+    check_at(rt, ring.is_bare() == plain.items.is_empty(), "empty", at);
     Ok(())
 }
 
@@ -124,9 +126,9 @@ fn compares<L: Line>(
         turns(rt, ring, &mut plain, &mut dice, item)?;
     }
     for _ in 0..301 {
-        assert!(rt; ring.takes() == plain.takes(0));
+        check(rt, ring.takes() == plain.takes(0), "what is left");
     }
-    assert!(rt; ring.is_bare());
+    check(rt, ring.is_bare(), "nothing is left");
     Ok(())
 }
 
@@ -153,7 +155,8 @@ fn holds_1_to_4096(rt: HostRuntime) {
         (4_097, Some(Refusal::BadDirective)),
         (u32::MAX, Some(Refusal::BadDirective)),
     ] {
-        assert!(rt; refusal_to_make(rt.alloc(), size) == refusal, "{size}");
+        let is_so = refusal_to_make(rt.alloc(), size) == refusal;
+        check_at(&rt, is_so, "a size", usize::try_from(size).unwrap_or(0));
     }
 }
 
@@ -188,7 +191,7 @@ fn the_claims_stand_over_rings(rt: HostRuntime) -> Result<(), Fail> {
         let counts = courses::courses(&rt, &mut link, u64::from(size), 20_000)?;
         confirmed = confirmed.saturating_add(counts.0);
     }
-    assert!(rt; confirmed > 99, "{confirmed} confirmed");
+    check_at(&rt, confirmed > 99, "confirmed over rings", confirmed);
     Ok(())
 }
 
@@ -199,14 +202,16 @@ fn drops_the_oldest<L: Link>(rt: &impl Abort, link: &mut L) {
         link,
         &[START, Act::Offer(1), Act::Offer(2), Act::Offer(3)],
     );
-    assert!(rt; flies(link, 2));
+    check(rt, flies(link, 2), "the first is dropped");
     acts(rt, link, &[Act::Up, Act::Up]);
-    assert!(rt; link.farm().vr == 0 && link.farm().retransmit);
+    let farm = link.farm();
+    check(rt, farm.vr == 0 && farm.retransmit, "both are discarded");
     acts(rt, link, &[Act::Clcw, Act::Downlink]);
-    assert!(rt; flies(link, 2));
+    check(rt, flies(link, 2), "the first is dropped again");
     acts(rt, link, &[Act::Up]);
     let session = link.written(0).expect(rt, "a session");
-    assert!(rt; session.sent.len() == 3 && session.accepted.is_empty());
+    check(rt, session.sent.len() == 3, "three are sent");
+    check(rt, session.accepted.is_empty(), "none is accepted");
 }
 
 #[test]
@@ -234,18 +239,21 @@ fn waits_without_memory<L: Link>(
     acts(rt, link, &[START, Act::Offer(1), Act::Clcw]);
     let ballast = take_all_but(alloc, heap, 0)?;
     let waits = link.does(event(rt, &Act::Offer(2))).is_ok();
-    assert!(rt; waits && link.fop().waiting == 1 && link.in_flight() == (1, 1));
+    check(rt, waits && link.fop().waiting == 1, "an offer waits");
+    check(rt, link.in_flight() == (1, 1), "one frame, one word");
     let heard = link.does(event(rt, &Act::Downlink)).err();
-    assert!(rt; heard == Some(Refusal::Memory) && link.in_flight() == (1, 1));
+    check(
+        rt,
+        heard == Some(Refusal::Memory),
+        "a word is refused memory",
+    );
+    check(rt, link.in_flight() == (1, 1), "and stays in flight");
     drop(ballast);
     acts(rt, link, &[Act::Downlink]);
-    assert!(rt; link.in_flight() == (1, 0) && link.fop().sent == 1);
+    check(rt, link.in_flight() == (1, 0), "the word came down");
+    check(rt, link.fop().sent == 1, "one is sent");
     let known = link.does(event(rt, &Act::Offer(2))).err();
-    assert!(rt;
-        known == Some(Refusal::WrongPlace),
-        "{}",
-        number(rt, 2).get()
-    );
+    check(rt, known == Some(Refusal::WrongPlace), "request 2 again");
     Ok(())
 }
 

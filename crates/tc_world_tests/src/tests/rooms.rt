@@ -1,7 +1,8 @@
 //! Memory refused: an event that has no memory does not happen, and those before it stand.
 use super::rounds::{check_all, round};
 use super::{
-    AMPLE, Act, Ballast, Scenario, acts, add, all_happen, flies, lists, over_lists, take_all_but,
+    AMPLE, Act, Ballast, Scenario, acts, add, all_happen, check, check_at, flies, lists,
+    over_lists, take_all_but,
 };
 use crate::links::{Link, Written};
 use linked_list_allocator::LocalHeap;
@@ -18,7 +19,7 @@ fn all_events(rt: &impl Abort, events: &mut Vec<Event, Global>) -> Result<(), Fa
     add(rt, events, Act::Up, 45)?;
     add(rt, events, Act::Clcw, 1)?;
     add(rt, events, Act::Downlink, 1)?;
-    assert_eq!(rt; events.len(), 605);
+    check(rt, events.len() == 605, "605 events");
     Ok(())
 }
 
@@ -48,17 +49,21 @@ const TOO_MANY: usize = 1_000_000;
 /// Room is taken, and control words use it up; where it is refused nothing changes.
 pub fn reserves<L: Link>(rt: &impl Abort, link: &mut L) {
     let made = link.reserves(3);
-    assert!(rt; made.is_ok());
-    assert!(rt; flies(link, 0));
+    check(rt, made.is_ok(), "room for three");
+    check(rt, flies(link, 0), "nothing in flight");
     acts(
         rt,
         link,
         &[Act::Release, Act::Clcw, Act::Clcw, Act::Release, Act::Clcw],
     );
-    assert!(rt; link.in_flight() == (0, 3));
-    let refused = link.reserves(TOO_MANY);
-    assert!(rt; refused == Err(Refusal::Memory));
-    assert!(rt; link.in_flight() == (0, 3));
+    check(rt, link.in_flight() == (0, 3), "three words");
+    let refusal = link.reserves(TOO_MANY).err();
+    check(
+        rt,
+        refusal == Some(Refusal::Memory),
+        "no room for a million",
+    );
+    check(rt, link.in_flight() == (0, 3), "three words after that");
 }
 
 /// All that is seen of a link in its first session.
@@ -96,6 +101,11 @@ fn spares<L: Link>(rt: &impl Abort, link: &mut L) {
     }
 }
 
+/// Whether this refusal is one of memory, or there is none.
+fn is_memory(refusal: Option<Refusal>) -> bool {
+    refusal.is_none() || refusal == Some(Refusal::Memory)
+}
+
 /// Makes the events happen up to the first that is refused memory, and the same on a link with ample memory: the two
 /// then stand alike. Then there is memory, and that event happens too. Answers how many have happened then, and one
 /// more where none is left.
@@ -111,16 +121,16 @@ fn refuses_one<L: Link, M: Link>(
         .split_at_checked(end.done)
         .expect(rt, "no more than there are");
     all_happen(rt, ample, happened);
-    assert!(rt; is_alike(link, ample), "after {} events", end.done);
-    let is_memory = end.refusal.is_none() || end.refusal == Some(Refusal::Memory);
-    assert!(rt; is_memory, "after {} events", end.done);
-    assert!(rt; end.refusal.is_none() == left.is_empty());
+    check_at(rt, is_alike(link, ample), "alike after events", end.done);
+    check_at(rt, is_memory(end.refusal), "refused memory after", end.done);
+    let is_done = end.refusal.is_none() == left.is_empty();
+    check_at(rt, is_done, "done, or refused after", end.done);
     spares(rt, link);
     drop(ballast);
     let next = left.get(..1).unwrap_or(&[]);
     all_happen(rt, link, next);
     all_happen(rt, ample, next);
-    assert!(rt; is_alike(link, ample), "one behind {} events", end.done);
+    check_at(rt, is_alike(link, ample), "alike one after", end.done);
     end.done.saturating_add(1)
 }
 
@@ -179,7 +189,7 @@ fn is_refused_memory_and_stands(rt: HostRuntime) -> Result<(), Fail> {
     all_events(&rt, &mut events)?;
     for &(left, least) in LEFT {
         let refused = refused_in(&rt, rt.alloc(), left, &events)?;
-        assert!(rt; refused >= least, "{refused} with {left} bytes");
+        check_at(&rt, refused >= least, "refused with so many bytes", left);
     }
     Ok(())
 }
@@ -190,14 +200,19 @@ fn is_world_refused(rt: &impl Abort, alloc: Global, left: usize) -> Result<bool,
     let _ballast = take_all_but(alloc, &heap, left)?;
     let before = heap.used();
     let refusal = lists(&heap, 255, 254, 0).err();
-    assert_eq!(rt; heap.used(), before);
-    assert!(rt; refusal.is_none() || refusal == Some(Refusal::Memory));
+    check_at(rt, heap.used() == before, "keeps none beside", left);
+    check_at(
+        rt,
+        is_memory(refusal),
+        "made, or refused memory beside",
+        left,
+    );
     Ok(refusal.is_some())
 }
 
 #[test]
 fn is_made_or_refused_memory(rt: HostRuntime) -> Result<(), Fail> {
-    let mut refused = 0u32;
+    let mut refused = 0usize;
     let mut is_last_refused = true;
     for left in (0..1_048_576).step_by(4_096) {
         is_last_refused = is_world_refused(&rt, rt.alloc(), left)?;
@@ -205,8 +220,8 @@ fn is_made_or_refused_memory(rt: HostRuntime) -> Result<(), Fail> {
             refused = refused.saturating_add(1);
         }
     }
-    assert!(rt; refused > 4, "{refused}");
-    assert!(rt; !is_last_refused);
+    check_at(&rt, refused > 4, "worlds are refused", refused);
+    check(&rt, !is_last_refused, "the last is made");
     Ok(())
 }
 

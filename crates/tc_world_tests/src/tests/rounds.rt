@@ -1,8 +1,8 @@
 //! 300 requests, over the end of the frames' numbers.
 use super::rings::rings;
 use super::{
-    Act, START, Scenario, acts, add, add_offers, all_happen, answers, check_session, flies, offer,
-    over_lists, repeats, skips,
+    Act, START, Scenario, acts, add, add_offers, all_happen, answers, check, check_at,
+    check_session, flies, offer, over_lists, repeats, skips,
 };
 use crate::links::Link;
 use std::alloc::Global;
@@ -24,8 +24,13 @@ fn standing<L: Link>(link: &L) -> [u8; 5] {
 
 /// Checks that, and how many frames are in flight, where nothing else is.
 fn stands<L: Link>(rt: &impl Abort, link: &L, numbers: [u8; 5], frames: usize) {
-    assert!(rt; standing(link) == numbers, "with {frames} in flight");
-    assert!(rt; flies(link, frames), "not {frames} in flight");
+    check_at(
+        rt,
+        standing(link) == numbers,
+        "numbers with in flight",
+        frames,
+    );
+    check_at(rt, flies(link, frames), "in flight", frames);
 }
 
 /// The requests from one number to another are offered.
@@ -47,7 +52,7 @@ fn offers<L: Link>(
 fn fills_the_window<L: Link>(rt: &impl Abort, link: &mut L) {
     stands(rt, link, [255, 0, 255, 1, 0], 255);
     let is_full = answers(link, offer(rt, 257), Some(Refusal::WaitQueueFull));
-    assert!(rt; is_full);
+    check(rt, is_full, "no second request waits");
     stands(rt, link, [255, 0, 255, 1, 0], 255);
     repeats(rt, link, &Act::Up, 255);
     stands(rt, link, [255, 0, 255, 1, 255], 0);
@@ -66,8 +71,8 @@ fn goes_on<L: Link>(rt: &impl Abort, link: &mut L) {
 
 /// Each of the 300 was sent, accepted and confirmed once, in order, in one session.
 pub fn check_all<L: Link>(rt: &impl Abort, link: &L) {
-    assert!(rt; link.is_clean());
-    assert_eq!(rt; link.sessions(), 1);
+    check(rt, link.is_clean(), "clean");
+    check(rt, link.sessions() == 1, "one session");
     check_session(rt, link, 0, 1, [300, 300, 300]);
 }
 
@@ -106,10 +111,12 @@ pub fn round(rt: &impl Abort, events: &mut Vec<Event, Global>) -> Result<(), Fai
 /// The first frame never comes up, and one far ahead does: the FARM locks, the service stops, and so does the run.
 fn stops<L: Link>(rt: &impl Abort, link: &mut L, events: &[Event]) {
     let end = link.does_all(events);
-    assert_eq!(rt; end.done, 514);
-    assert!(rt; end.refusal == Some(Refusal::ServiceNotActive));
-    assert!(rt; link.is_clean());
-    assert!(rt; link.farm().state == FarmState::Lockout);
+    check_at(rt, end.done == 514, "514 happen", end.done);
+    let is_stopped = end.refusal == Some(Refusal::ServiceNotActive);
+    check(rt, is_stopped, "the service stopped");
+    check(rt, link.is_clean(), "clean over links that skip");
+    let is_locked = link.farm().state == FarmState::Lockout;
+    check(rt, is_locked, "the FARM locks");
     check_session(rt, link, 0, 1, [255, 0, 0]);
 }
 

@@ -1,5 +1,5 @@
 //! Starts that are not good, after which `clean` stays false.
-use super::{Act, CHECK, START, STOP, Scenario, UNLOCK, acts, flies, over_lists};
+use super::{Act, CHECK, START, STOP, Scenario, UNLOCK, acts, check, flies, over_lists};
 use crate::links::Link;
 use std::process::Abort;
 use std::test::Fail;
@@ -23,7 +23,7 @@ const ANOTHER: &[Act] = &[STOP, CHECK];
 /// After these acts each start was good, or not.
 fn leaves<L: Link>(rt: &impl Abort, link: &mut L, done: &[Act], good: bool, what: &str) {
     acts(rt, link, done);
-    assert!(rt; link.is_clean() == good, "{what}");
+    check(rt, link.is_clean() == good, what);
 }
 
 /// A start over a frame in flight, and a good one after it.
@@ -31,9 +31,9 @@ pub fn starts_over_a_frame<L: Link>(rt: &impl Abort, link: &mut L) {
     leaves(rt, link, LEAVES_A_FRAME, true, "before");
     leaves(rt, link, CHECKS, false, "over a frame");
     leaves(rt, link, TAKES_THE_FRAME, false, "without the frame");
-    assert!(rt; flies(link, 0));
+    check(rt, flies(link, 0), "nothing in flight");
     leaves(rt, link, CHECKS, false, "after a good start");
-    assert_eq!(rt; link.sessions(), 3);
+    check(rt, link.sessions() == 3, "three sessions");
 }
 
 /// A start over a control word in flight.

@@ -2,7 +2,7 @@
 //! good. After each event K fitted so far, the FARM is not in Lockout, and no alert came but one that may come.
 use super::courses::{Dice, report};
 use super::rings::{SIZES, rings};
-use super::{UP, flies, lists, offer, skips};
+use super::{UP, check, check_at, flies, lists, offer, skips};
 use crate::links::Link;
 use std::process::Abort;
 use std::test::Fail;
@@ -188,9 +188,11 @@ impl Course {
 
 /// Checks what stands between two events where K fits.
 fn check_standing<L: Link>(rt: &impl Abort, link: &L, level: bool) {
-    assert!(rt; link.is_clean() && link.has_fitted());
-    assert!(rt; link.farm().state != FarmState::Lockout);
-    assert!(rt; link.is_level() == level);
+    check(rt, link.is_clean(), "clean");
+    check(rt, link.has_fitted(), "fits");
+    let is_locked = link.farm().state == FarmState::Lockout;
+    check(rt, !is_locked, "no lock-out");
+    check(rt, link.is_level() == level, "level, or not");
 }
 
 /// Counts what an event told, where the FOP stood so before it: an alert has to be one that may come.
@@ -204,7 +206,8 @@ fn counts<L: Link>(
     let state = before.state;
     let level = course.level;
     if let Some(kind) = alert {
-        assert!(rt; may_alert(level, state, kind), "{kind:?} in {state:?}");
+        let place = row(level, state).saturating_add(column(kind));
+        check_at(rt, may_alert(level, state, kind), "an alert", place);
         course.tally.count(level, state, kind);
     }
     course.tally.follow(before, &link.fop());
@@ -244,7 +247,12 @@ fn offers_next<L: Link>(rt: &impl Abort, link: &mut L, course: &mut Course) {
         }
         Err(Refusal::WaitQueueFull) => None,
         Err(refusal) => {
-            assert!(rt; refusal == Refusal::ServiceNotActive && !is_taking(before.state));
+            let is_stopped = refusal == Refusal::ServiceNotActive && !is_taking(before.state);
+            check(
+                rt,
+                is_stopped,
+                "an offer is refused where the service is on",
+            );
             None
         }
     };
@@ -276,7 +284,7 @@ fn drains<L: Link>(rt: &impl Abort, link: &mut L, course: &mut Course) -> Result
     for _ in 0..reports {
         goes(rt, link, course, Event::Downlink)?;
     }
-    assert!(rt; flies(link, 0));
+    check(rt, flies(link, 0), "all arrived");
     Ok(())
 }
 
@@ -394,13 +402,14 @@ const ENOUGH: [(bool, FopState, AlertKind, u32); 17] = [
 /// Checks that there were so many events, and that each alert which may come came.
 fn check_enough(rt: &impl Abort, tally: &Tally) {
     for (level, state, kind, least) in ENOUGH {
-        let count = tally.came(level, state, kind);
-        assert!(rt; count >= least, "{count} of {kind:?} in {state:?}");
+        let is_enough = tally.came(level, state, kind) >= least;
+        let place = row(level, state).saturating_add(column(kind));
+        check_at(rt, is_enough, "too few of an alert", place);
     }
-    assert!(rt; tally.events >= 166_667, "{} events", tally.events);
-    assert!(rt; tally.again > 1_000, "{} again", tally.again);
-    assert!(rt; tally.full > 9_000, "{} full", tally.full);
-    assert!(rt; tally.confirmed > 800, "{} confirmed", tally.confirmed);
+    check(rt, tally.events >= 166_667, "events");
+    check(rt, tally.again > 1_000, "frames sent again");
+    check(rt, tally.full > 9_000, "full windows");
+    check_at(rt, tally.confirmed > 800, "confirmed", tally.confirmed);
 }
 
 #[test]

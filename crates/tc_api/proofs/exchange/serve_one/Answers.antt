@@ -1,3 +1,4 @@
+use Rattle.tc_room.proofs.RoomLemmas.{kept_book}
 use Rattle.tc_api.proofs.ExchangeLemmas.{ends_told, exchange_read}
 use Rattle.tc_api.proofs.KeptLemmas.{read_keeps}
 use Rattle.tc_api.proofs.exchange.serve_one.Goals as goal
@@ -11,4 +12,4 @@ returns-clause-kept g c = let read = exchange_read g.S.Store c.exchange-done.res
 pub returns-clause-step : goal.returns-clause-step
 returns-clause-step g c =
     let read = exchange_read g.S.Store c.exchange-done.result _ _ _ _ _ _ c.exchange-done.ensures in
-    (read.0, record { served = read.1; opened = c.exchange-done.ensures.opened; promise = c.opened-opened.ensures.promise })
+    (read.0, record { served = read.1; opened = c.exchange-done.ensures.opened; promise = c.opened-opened.ensures.promise; kept = kept_book _ c.opened-opened.ensures.good })

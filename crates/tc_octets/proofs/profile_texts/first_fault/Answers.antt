@@ -18,7 +18,8 @@ overflow_add-count c =
 
 pub returns-in-Some-fault_of : goal.returns-in-Some-fault_of
 returns-in-Some-fault_of c =
-    fault_here _ _ _ _ _ _ refl (c.loop-line.invariant.left ∙ ap (map statement_of) c.in-Some.ensures.some) c.loop-line.invariant.sound c.in-Some-fault_of.ensures
+    fault_here _ _ _ _ _ _ refl (c.loop-line.invariant.left ∙ ap (map statement_of) c.in-Some.ensures.some) c.loop-line.invariant.sound
+    c.in-Some-fault_of.ensures
 
 pub loop-line-preserved : goal.loop-line-preserved
 loop-line-preserved c =

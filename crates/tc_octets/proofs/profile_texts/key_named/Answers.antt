@@ -12,4 +12,5 @@ use Rattle.tc_octets.proofs.profile_texts.key_named.Goals as goal
 pub returns : goal.returns
 returns c =
     key_read c.args.name.now c.find.result
-    (sym (option_map_id c.find.result) ∙ find_from_yields_List (λ at. pointwise nat_eq c.args.name.now (name_of at)) _ _ _ c.find.ensures.ran (YieldsList-from_copied (YieldsList-from_slice KEYS cc)) (λ x b q k. search rules))
+    (sym (option_map_id c.find.result) ∙ find_from_yields_List (λ at. pointwise nat_eq c.args.name.now (name_of at)) _ _ _ c.find.ensures.ran
+    (YieldsList-from_copied (YieldsList-from_slice KEYS cc)) (λ x b q k. search rules))

@@ -5,7 +5,8 @@ use Rattle.tc_octets.proofs.statements.read_words.Goals as goal
 pub returns-in-Some : goal.returns-in-Some
 returns-in-Some c =
     rw (c.trim.ensures, c.trim-in-Some.ensures)
-    (sym (setting_in c.args.words.now c.in-Some.place (nonempty _ _ c.is_empty.ensures c.if-is_empty.false) (λ e. omega arith) (sym c.in-Some.ensures)))
+    (sym (setting_in c.args.words.now c.in-Some.place (nonempty _ _ c.is_empty.ensures c.if-is_empty.false) (λ e. omega arith)
+    (sym c.in-Some.ensures)))
 
 pub returns-in-None : goal.returns-in-None
 returns-in-None c =

@@ -32,7 +32,8 @@ loop-preserved c =
     let is : IsEntry c.args.profile.now (take (entry_length c.args.profile.now) c.loop.left.now) entry =
     subst (λ (l : List ℕ). IsEntry c.args.profile.now l entry) chunk c.in_ok-entry.ensures in
     subst
-    (λ (l : List ℕ). Lists c.args.profile.now (c.loop.counter + 1) c.args.octets.now l c.add_entry.new.listing.activities c.add_entry.new.listing.passed)
+    (λ (l : List ℕ). Lists c.args.profile.now (c.loop.counter + 1) c.args.octets.now l c.add_entry.new.listing.activities
+    c.add_entry.new.listing.passed)
     (sym rest)
     (lists_more c.args.profile.now c.loop.counter c.args.octets.now c.loop.left.now c.loop.listing.activities c.add_entry.new.listing.activities
     c.loop.listing.passed c.add_entry.new.listing.passed entry c.loop.invariant is c.add_entry.ensures.ours c.add_entry.ensures.all)

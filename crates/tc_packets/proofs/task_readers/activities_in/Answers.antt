@@ -5,7 +5,8 @@ use Rattle.tc_packets.proofs.task_readers.activities_in.Goals as goal
 
 pub returns-in-None : goal.returns-in-None
 returns-in-None c =
-    next_none c.args.profile.now c.args.octets.now c.loop-at.left.now c.loop-at.at c.args.number c.loop-at.places c.loop-at.invariant c.loop-at-test.true
+    next_none c.args.profile.now c.args.octets.now c.loop-at.left.now c.loop-at.at c.args.number c.loop-at.places c.loop-at.invariant
+    c.loop-at-test.true
     c.requires.most c.in-None.ensures
 
 pub loop-at-preserved : goal.loop-at-preserved
@@ -16,7 +17,8 @@ loop-at-preserved c =
     subst
     (λ (l : List ℕ). HasRead c.args.profile.now c.args.octets.now l (c.loop-at.at + 1) (set c.loop-at.places c.loop-at.at c.in-Some.activity))
     (sym c.octets_from-left-in-Some.ensures)
-    (read_next c.args.profile.now c.args.octets.now c.loop-at.left.now c.loop-at.at c.loop-at.places c.in-Some.activity c.in-Some.length c.loop-at.invariant
+    (read_next c.args.profile.now c.args.octets.now c.loop-at.left.now c.loop-at.at c.loop-at.places c.in-Some.activity c.in-Some.length
+    c.loop-at.invariant
     room c.in-Some.ensures)
 
 pub returns : goal.returns

@@ -6,7 +6,8 @@ use Rattle.tc_packets.proofs.task_readers.plain_request_in.Goals as goal
 
 pub returns : goal.returns
 returns c =
-    request_some c.args.profile.now c.args.octets.now c.identity_in.result c.ack_in.result c.in_ok-plain.plain (λ i. omega (arith, c.type_inv.octets i))
+    request_some c.args.profile.now c.args.octets.now c.identity_in.result c.ack_in.result c.in_ok-plain.plain
+    (λ i. omega (arith, c.type_inv.octets i))
     c.requires (record { apid = c.identity_in.ensures.apid; count = c.identity_in.ensures.count; acks = c.ack_in.ensures })
     (subst
     (λ (d : List ℕ). ReadsPlain c.args.profile.now (service_in c.args.octets.now) (subtype_in c.args.octets.now) d (Some c.in_ok-plain.plain))

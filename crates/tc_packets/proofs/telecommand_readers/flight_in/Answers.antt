@@ -6,7 +6,8 @@ use Rattle.tc_packets.proofs.telecommand_readers.flight_in.Goals as goal
 
 pub returns-in-Some : goal.returns-in-Some
 returns-in-Some c =
-    read_ok c.args.profile.now c.args.octets.now c.identity_in.result c.ack_in.result c.in-Some.task (λ i. omega (arith, c.type_inv.octets i)) c.requires
+    read_ok c.args.profile.now c.args.octets.now c.identity_in.result c.ack_in.result c.in-Some.task (λ i. omega (arith, c.type_inv.octets i))
+    c.requires
     (record { apid = c.identity_in.ensures.apid; count = c.identity_in.ensures.count; acks = c.ack_in.ensures })
     (subst
     (λ (d : List ℕ). ReadsTask c.args.profile.now (service_in c.args.octets.now) (subtype_in c.args.octets.now) d (Some c.in-Some.task))

@@ -1,6 +1,5 @@
 use Rattle.std.proofs.Common.{inl, inr}
 use Rattle.std.proofs.KnownBytes.{Appends-nil}
-use Rattle.tc_run.proofs.KeptLemmas.{stays}
 use Rattle.tc_run.proofs.StopLemmas.{unopened}
 use Rattle.tc_run.proofs.opened.open_told.Goals as goal
 
@@ -12,4 +11,4 @@ returns-in-Ok-clause-stopped g c =
 pub returns-clause-stopped : goal.returns-clause-stopped
 returns-clause-stopped g c =
     let e = c.in-Err.ensures in
-    rw c.from.ensures (inl (unopened _ _ e.refused e.kind, Appends-nil _, stays g.S.Store _ _ _ _ e.kept e.crash e.foreign))
+    rw c.from.ensures (inl (unopened _ _ e.refused e.kind, Appends-nil _, e.stays))

@@ -9,7 +9,8 @@ returns-then-len-le-MARK-clause-wait c =
 
 pub returns-then-len-whole-clause-wait : goal.returns-then-len-whole-clause-wait
 returns-then-len-whole-clause-wait c =
-    more_wait c.args.profile.now c.args.self.now c.add.new.self c.args.octet c.requires c.add.ensures (omega (arith, c.len.ensures, c.if-len-le-MARK.false))
+    more_wait c.args.profile.now c.args.self.now c.add.new.self c.args.octet c.requires c.add.ensures
+    (omega (arith, c.len.ensures, c.if-len-le-MARK.false))
     (omega (arith, c.len-2.ensures, c.from-whole.ensures, c.if-len-whole.true))
 
 pub returns-then-is_frame-clause-wait : goal.returns-then-is_frame-clause-wait

@@ -7,5 +7,6 @@ use Rattle.tc_octets.proofs.profile_lines.ProfileDisplay.fmt.Goals as goal
 
 pub loop-key-preserved : goal.loop-key-preserved
 loop-key-preserved g c =
-    λ p. has_written_of_eq _ _ _ _ _ (lines_more c.args.self.now c.loop-key.key-index keys.Scid c.name-name.result.now (omega arith) c.name-name.ensures)
+    λ p. has_written_of_eq _ _ _ _ _ (lines_more c.args.self.now c.loop-key.key-index keys.Scid c.name-name.result.now (omega arith)
+    c.name-name.ensures)
     (has_written_append _ _ _ _ _ _ (c.loop-key.invariant p) (search rules))

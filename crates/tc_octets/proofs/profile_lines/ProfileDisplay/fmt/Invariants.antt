@@ -8,4 +8,5 @@ use Rattle.tc_octets.proofs.profile_lines.ProfileDisplay.fmt.Given as goal
 
 abbrev pub invariant-loop-key : goal.invariant-loop-key
 invariant-loop-key g l =
-    IsPlainFormatter l.initial.f → HasWritten g.W.Write.write_str_gives l.initial.f (flat_map (λ key. line_of l.fn.self key ++ 10 ∷ []) (take l.key-index KEYS)) l.f
+    IsPlainFormatter l.initial.f → HasWritten g.W.Write.write_str_gives l.initial.f
+    (flat_map (λ key. line_of l.fn.self key ++ 10 ∷ []) (take l.key-index KEYS)) l.f

@@ -12,6 +12,7 @@ loop-count-preserved g c =
     c.loop-count.count c.loop-count.frames.items c.push.new.self.items c.in_ok-frame.frame c.loop-count.invariant
     (c.in_ok-frame.ensures
     ∙ ap (λ (frame : TmParts). tm_frame_of c.args.self.now.profile.now frame)
-    (turn_is c.args.self.now.profile.now c.args.self.now.sender c.args.self.now.word c.loop-count.count c.pointer_in-pointer.result c.data_length-size.result
+    (turn_is c.args.self.now.profile.now c.args.self.now.sender c.args.self.now.word c.loop-count.count c.pointer_in-pointer.result
+    c.data_length-size.result
     c.args.octets.now c.args.places.now c.data_length-size.ensures.value c.pointer_in-pointer.ensures.value))
     c.in_ok-push.ensures.items

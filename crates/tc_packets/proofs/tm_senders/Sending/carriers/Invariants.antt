@@ -8,4 +8,5 @@ use Rattle.tc_packets.proofs.tm_senders.Sending.carriers.Given as goal
 abbrev pub invariant-loop-count : goal.invariant-loop-count
 invariant-loop-count g l =
     map octets_of l.frames.items
-    ≡ map (λ frame. tm_frame_of l.self.profile.now frame) (map (carrying l.self.profile.now l.self.sender l.self.word l.octets l.places) (range_with_len 0 l.count))
+    ≡ map (λ frame. tm_frame_of l.self.profile.now frame)
+    (map (carrying l.self.profile.now l.self.sender l.self.word l.octets l.places) (range_with_len 0 l.count))

@@ -1,0 +1,8 @@
+use Rattle.std.proofs.Common.{◌≡◌, List, map, take}
+use Rattle.tc_posts.specs.Numbered.{shown}
+use Rattle.tc_posts.specs.Sending.{AreSent, Step, refuses}
+use Rattle.tc_posts.proofs.sending.send_lines.Given as goal
+
+abbrev pub invariant-loop-line : goal.invariant-loop-line
+invariant-loop-line g l = (steps : List Step) × g.C.Client.did l.fn.client steps l.client
+    × AreSent l.fn.port (take l.line-index (map shown l.lines)) steps × (l.refused ≡ refuses steps)
