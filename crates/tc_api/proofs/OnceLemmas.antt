@@ -15,7 +15,7 @@ use Rattle.tc_front.specs.Front.{Asked, asks, posts, refuses, shows, tells}
 use Rattle.tc_desk.specs.Replies.{Reply, refusal_reply}
 use Rattle.tc_room.specs.declared.callers.Caller.{Caller}
 use Rattle.tc_book.specs.Book.{Book}
-use Rattle.tc_room.specs.Calls.{ActsAnew, AnswersActCall, AnswersLoadCall, FailsOnce, IsMadeOnce, KeepsAll, LoadsAnew, Makes, MakesNothing, StaysSo, kept_after, kept_for}
+use Rattle.tc_room.specs.Calls.{ActsAnew, AnswersActCall, AnswersLoadCall, FailsLook, IsMadeOnce, KeepsAll, LoadsAnew, Makes, MakesNothing, StaysSo, kept_after, kept_for}
 use Rattle.tc_room.specs.Room.{MakesBook}
 use Rattle.tc_room.specs.Crash.{Leaves, ledger_of}
 use Rattle.tc_room.specs.Joined.{HoldsBook, IsKept, LinkState, Standing}
@@ -39,7 +39,7 @@ record Seen {S : Type 0} (g : Ghosts S) (caller : Caller) (old : Standing S) (ou
   -- a room that has stopped says so; else the kept replies could not be read, or what is kept is the answer and nothing is done, or nothing was kept
   answers : (replies : List KeptAnswer) → HoldsBook g old replies → HasCleanDisk (state g new.tables) → MatchBool old.stopped
       ((outcome.reply ≡ refusal_reply Stopped) × (new ≡ old))
-      (FailsOnce g replies caller MakesNothing old outcome.reply new
+      (FailsLook g replies caller old outcome.reply new
       ⊎ ((kept_for replies caller ≡ Some (ended outcome.reply)) × (is_refused outcome.reply ≡ false) × (asks_act ≡ true) × StaysSo g replies old new)
       ⊎ (kept_for replies caller ≡ None))
   held : (replies : List KeptAnswer) → HoldsBook g old replies → HoldsBook g new (kept_after replies caller asks_act outcome.reply)
@@ -53,8 +53,8 @@ weaker true A B C make m = m
 weaker false A B C make m = make m
 
 forget : {S : Type 0} (g : Ghosts S) (replies : List KeptAnswer) (caller : Caller) (old new : Standing S) (asks_act : Bool) (reply : Reply) (Anew : Type 0)
-    → FailsOnce g replies caller MakesNothing old reply new ⊎ ((kept_for replies caller ≡ Some (ended reply)) × (is_refused reply ≡ false) × (asks_act ≡ true) × StaysSo g replies old new) ⊎ ((kept_for replies caller ≡ None) × Anew)
-    → FailsOnce g replies caller MakesNothing old reply new ⊎ ((kept_for replies caller ≡ Some (ended reply)) × (is_refused reply ≡ false) × (asks_act ≡ true) × StaysSo g replies old new) ⊎ (kept_for replies caller ≡ None)
+    → FailsLook g replies caller old reply new ⊎ ((kept_for replies caller ≡ Some (ended reply)) × (is_refused reply ≡ false) × (asks_act ≡ true) × StaysSo g replies old new) ⊎ ((kept_for replies caller ≡ None) × Anew)
+    → FailsLook g replies caller old reply new ⊎ ((kept_for replies caller ≡ Some (ended reply)) × (is_refused reply ≡ false) × (asks_act ≡ true) × StaysSo g replies old new) ⊎ (kept_for replies caller ≡ None)
 forget g replies caller old new asks_act reply Anew (inl fails) = inl fails
 forget g replies caller old new asks_act reply Anew (inr (inl repeats)) = inr (inl repeats)
 forget g replies caller old new asks_act reply Anew (inr (inr anew)) = inr (inr anew.0)
@@ -230,13 +230,14 @@ before_only book replies caller ledger (inl same) = same
 before_only book replies caller ledger (inr made) = absurd made.2
 
 -- nothing was to be made, so a crash leaves what the files held
-leaves_nothing : {S : Type 0} (g : Ghosts S) (replies : List KeptAnswer) (caller : Caller) (old new : Standing S) (reply : Reply) → FailsOnce g replies caller MakesNothing old reply new
+leaves_nothing : {S : Type 0} (g : Ghosts S) (replies : List KeptAnswer) (caller : Caller) (old new : Standing S) (reply : Reply) → FailsLook g replies caller old reply new
     → StopsWithNothing g replies old reply new
 leaves_nothing g replies caller old new reply fails = record {
-  reply = fails.reply;
-  stopped = fails.stopped;
+  reply = fails.fails.reply;
+  stopped = fails.fails.stopped;
+  desk = fails.desk;
   files = λ trees may.
-      let left = fails.crash trees may in (left.0, before_only old.desk.book replies caller left.0 left.1, left.2);
+      let left = fails.fails.crash trees may in (left.0, before_only old.desk.book replies caller left.0 left.1, left.2);
 }
 
 -- ---- a call that comes again

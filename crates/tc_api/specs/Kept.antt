@@ -1,5 +1,5 @@
 -- What exchanges leave of a room, one after the other.
-use Rattle.std.specs.Prelude.{◌≡◌, ◌⊎◌, ℕ, true, false, Option, Some, None, Ok, List, [], ◌∷◌}
+use Rattle.std.specs.Prelude.{◌≡◌, ◌⊎◌, ℕ, true, false, Option, Some, None, Ok, List, [], ◌∷◌, ◌++◌}
 use Rattle.sqlite_trees.specs.Tree.{Trees}
 use Rattle.sqlite_trees.specs.declared.store.Store.{Ghosts}
 use Rattle.sqlite.specs.Held.{state}
@@ -60,24 +60,29 @@ ServesAll g old [] new = new ≡ old
 ServesAll {S} g old (read ∷ others) new = (next : Standing S) × ServesOne g old read next × ServesAll g next others new
 
 -- The database failed at one of them: until then the promise was kept, and of the tables it is as after any answer 31.
-pub record FailedAt {S : Type 0} (g : Ghosts S) (replies : List KeptAnswer) (start : Standing S) : Type 0 where
+pub record FailedAt {S : Type 0} (g : Ghosts S) (replies : List KeptAnswer) (start : Standing S) (reads : List (Option Asked)) (end : Standing S) : Type 0 where
+  pub before : List (Option Asked)
+  pub read : Option Asked
+  pub after : List (Option Asked)
+  pub among : reads ≡ before ++ read ∷ after
   pub last : Standing S
   pub next : Standing S
+  pub to_last : ServesAll g start before last
+  pub one : ServesOne g last read next
+  pub to_end : ServesAll g next after end
   pub held : List KeptAnswer
   pub keeps : KeepsAll replies held
-  pub opened : last.opened ≡ start.opened
   pub promise : KeepsPromise either (desk_in last)
   pub going : last.stopped ≡ false
   pub stopped : next.stopped ≡ true
   pub failed : HasCleanDisk (state g next.tables) → FailsTables g held last next
 
--- After any exchanges since a room was opened the promise is kept; and tables that held the book hold it, with each reply that was kept, until the
--- database failed.
-pub record KeepsRoom {S : Type 0} (g : Ghosts S) (start end : Standing S) : Type 0 where
+-- After these exchanges the promise is kept; and tables that held the book hold it, with each reply that was kept, until the database failed.
+pub record KeepsRoom {S : Type 0} (g : Ghosts S) (start : Standing S) (reads : List (Option Asked)) (end : Standing S) : Type 0 where
   pub opened : end.opened ≡ start.opened
   pub promise : KeepsPromise either (desk_in end)
   pub held : (replies : List KeptAnswer) → HoldsBook g start replies → (after : List KeptAnswer) × KeepsAll replies after × HoldsBook g end after
-  pub failed : (replies : List KeptAnswer) → HoldsBook g start replies → start.stopped ≡ false → end.stopped ≡ true → FailedAt g replies start
+  pub failed : (replies : List KeptAnswer) → HoldsBook g start replies → start.stopped ≡ false → end.stopped ≡ true → FailedAt g replies start reads end
 
 -- ---- a call that comes twice
 
@@ -123,10 +128,11 @@ GoesThrough g start [] end = end ≡ start
 GoesThrough {S} g start (exchange read ∷ others) end = (next : Standing S) × ServesOne g start read next × GoesThrough g next others end
 GoesThrough {S} g start (opening ∷ others) end = (next : Standing S) × OpensNext g start next × GoesThrough g next others end
 
--- The database failed as the kept replies were looked for: the room stops, and its files hold what they held, so nothing was done.
+-- The database failed as the kept replies were looked for: the room stops, its desk is as it was, and its files hold what they held, so nothing was done.
 pub record StopsWithNothing {S : Type 0} (g : Ghosts S) (replies : List KeptAnswer) (old : Standing S) (told : Reply) (new : Standing S) : Type 0 where
   pub reply : told ≡ refusal_reply Store
   pub stopped : new.stopped ≡ true
+  pub desk : desk_in new ≡ desk_in old
   pub files : Leaves g new.tables (λ ledger. ledger ≡ ledger_of old.desk.book replies)
 
 -- The answer to a call that came again is the response of the first, byte for byte; or the room has stopped, or stops here, and says so; or there was no memory to read
