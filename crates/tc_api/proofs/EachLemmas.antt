@@ -1,62 +1,68 @@
 -- The exchanges of a server, so far.
-use Rattle.std.proofs.Common.{◌≡◌, ◌∙◌, ℕ, Option, Some, None, List, [], ◌∷◌, ◌++◌, refl, sym, ap, length, length-append, append_assoc, append-nil}
-use Rattle.std.specs.Prelude.{◌+◌}
+use Rattle.std.proofs.Common.{◌≡◌, ◌∙◌, ℕ, Option, Some, None, List, [], ◌∷◌, ◌++◌, refl, sym, ap, subst, append_assoc, append-nil}
 use Rattle.sqlite_trees.specs.declared.store.Store.{Ghosts}
 use Rattle.tc_world.specs.EitherLink.{either}
 use Rattle.tc_desk.specs.Promise.{KeepsPromise}
 use Rattle.tc_front.specs.Front.{Asked}
 use Rattle.tc_room.specs.Joined.{Standing, desk_in}
-use Rattle.tc_api.specs.Each.{Brings, ServesBrought}
-use Rattle.tc_api.specs.Kept.{ServesAll, ServesOne}
-use Rattle.tc_api.proofs.KeptLemmas.{all_keep, all_one_more}
+use Rattle.tc_api.specs.Each.{Dealt, Deals, DealsAll, Grows, ServesEach}
+use Rattle.tc_api.specs.Kept.{ServesAll}
+use Rattle.tc_api.proofs.KeptLemmas.{all_keep}
 
-brings_none : (b : Option (List (List ℕ))) → Brings b b []
-brings_none None = tt
-brings_none (Some all) = sym (append-nil all)
+grows_none : (b : Option (List Dealt)) → Grows b b []
+grows_none None = tt
+grows_none (Some all) = sym (append-nil all)
 
-brings_more : (a b c : Option (List (List ℕ))) (xs ys : List (List ℕ)) → Brings a b xs → Brings b c ys → Brings a c (xs ++ ys)
-brings_more None b c xs ys first second = tt
-brings_more (Some a) None c xs ys first second = absurd first
-brings_more (Some a) (Some b) None xs ys first second = absurd second
-brings_more (Some a) (Some b) (Some c) xs ys first second = second ∙ ap (λ (l : List (List ℕ)). l ++ ys) first ∙ append_assoc a xs ys
+grows_more : (a b c : Option (List Dealt)) (xs ys : List Dealt) → Grows a b xs → Grows b c ys → Grows a c (xs ++ ys)
+grows_more None b c xs ys first second = tt
+grows_more (Some a) None c xs ys first second = absurd first
+grows_more (Some a) (Some b) None xs ys first second = absurd second
+grows_more (Some a) (Some b) (Some c) xs ys first second = second ∙ ap (λ (l : List Dealt). l ++ ys) first ∙ append_assoc a xs ys
 
-brings_same : (a b c : Option (List (List ℕ))) (xs : List (List ℕ)) → Brings a b xs → Brings b c [] → Brings a c xs
-brings_same None b c xs first second = tt
-brings_same (Some a) None c xs first second = absurd first
-brings_same (Some a) (Some b) None xs first second = absurd second
-brings_same (Some a) (Some b) (Some c) xs first second = second ∙ append-nil b ∙ first
+grows_same : (a b c : Option (List Dealt)) (xs : List Dealt) → Grows a b xs → Grows b c [] → Grows a c xs
+grows_same a b c xs first second = subst (Grows a c) (append-nil xs) (grows_more a b c xs [] first second)
 
-module _ {S : Type 0} (g : Ghosts S) where
-  -- each request that was brought so far made one exchange
-  pub record SoFar (brought brings : Option (List (List ℕ))) (start at : Standing S) : Type 0 where
-    pub texts : List (List ℕ)
+module _ {S : Type 0} (hosts : List (List ℕ)) (since : ℕ) (g : Ghosts S) where
+  one_more_deal : (start mid end : Standing S) (before : List Dealt) (reads : List (Option Asked)) (dealt : Dealt) (read : Option Asked) → DealsAll hosts since g start before reads mid → Deals hosts since g mid dealt read end
+      → DealsAll hosts since g start (before ++ dealt ∷ []) (reads ++ read ∷ []) end
+  one_more_deal start mid end [] [] dealt read same deals = (end, subst (λ (s : Standing S). Deals hosts since g s dealt read end) same deals, refl)
+  one_more_deal start mid end (first ∷ before) (was ∷ reads) dealt read (next, one, later) deals = (next, one, one_more_deal next mid end before reads dealt read later deals)
+  one_more_deal start mid end [] (was ∷ reads) dealt read none deals = absurd none
+  one_more_deal start mid end (first ∷ before) [] dealt read none deals = absurd none
+
+  all_serve : (start end : Standing S) (dealt : List Dealt) (reads : List (Option Asked)) → DealsAll hosts since g start dealt reads end → ServesAll g start reads end
+  all_serve start end [] [] same = same
+  all_serve start end (first ∷ dealt) (read ∷ reads) (next, one, later) = (next, one.serves, all_serve next end dealt reads later)
+  all_serve start end [] (read ∷ reads) none = absurd none
+  all_serve start end (first ∷ dealt) [] none = absurd none
+
+  -- each request that came so far made one exchange
+  pub record SoFar (old new : Option (List Dealt)) (start at : Standing S) : Type 0 where
+    pub dealt : List Dealt
     pub reads : List (Option Asked)
-    pub brought_so : Brings brought brings texts
-    pub each : length reads ≡ length texts
-    pub serves : ServesAll g start reads at
+    pub are : Grows old new dealt
+    pub deals : DealsAll hosts since g start dealt reads at
 
-  pub none_yet : (brought : Option (List (List ℕ))) (start : Standing S) → SoFar brought brought start start
-  none_yet brought start = record { texts = []; reads = []; brought_so = brings_none brought; each = refl; serves = refl }
+  pub none_yet : (old : Option (List Dealt)) (start : Standing S) → SoFar old old start start
+  none_yet old start = record { dealt = []; reads = []; are = grows_none old; deals = refl }
 
-  pub one_more : (brought mid next brings : Option (List (List ℕ))) (start at new : Standing S) (text : List ℕ) (read : Option Asked) → SoFar brought mid start at → Brings mid next (text ∷ []) → Brings next brings []
-      → ServesOne g at read new → SoFar brought brings start new
-  one_more brought mid next brings start at new text read so_far came told one = record {
-    texts = so_far.texts ++ text ∷ [];
+  pub one_more : (old mid next new : Option (List Dealt)) (start at end : Standing S) (dealt : Dealt) (read : Option Asked) → SoFar old mid start at → Grows mid next [] → Grows next new (dealt ∷ [])
+      → Deals hosts since g at dealt read end → SoFar old new start end
+  one_more old mid next new start at end dealt read so_far waits told deals = record {
+    dealt = so_far.dealt ++ dealt ∷ [];
     reads = so_far.reads ++ read ∷ [];
-    brought_so = brings_more brought mid brings so_far.texts (text ∷ []) so_far.brought_so (brings_same mid next brings (text ∷ []) came told);
-    each = length-append so_far.reads (read ∷ []) ∙ ap (λ (n : ℕ). n + 1) so_far.each ∙ sym (length-append so_far.texts (text ∷ []));
-    serves = all_one_more g start at new so_far.reads read so_far.serves one;
+    are = grows_more old next new so_far.dealt (dealt ∷ []) (grows_same old mid next so_far.dealt so_far.are waits) told;
+    deals = one_more_deal start at end so_far.dealt so_far.reads dealt read so_far.deals deals;
   }
 
-  pub ends : (brought mid brings : Option (List (List ℕ))) (start end : Standing S) → KeepsPromise either (desk_in start) → SoFar brought mid start end → Brings mid brings [] → ServesBrought g brought brings start end
-  ends brought mid brings start end promise so_far told = record {
-    texts = so_far.texts;
-    brought_so = brings_same brought mid brings so_far.texts so_far.brought_so told;
+  pub ends : (old mid new : Option (List Dealt)) (start end : Standing S) → KeepsPromise either (desk_in start) → SoFar old mid start end → Grows mid new [] → ServesEach hosts since g old new start end
+  ends old mid new start end promise so_far waits = record {
+    dealt = so_far.dealt;
     reads = so_far.reads;
-    each = so_far.each;
-    serves = so_far.serves;
-    keeps = all_keep g start end so_far.reads promise so_far.serves;
+    are = grows_same old mid new so_far.dealt so_far.are waits;
+    deals = so_far.deals;
+    keeps = all_keep g start end so_far.reads promise (all_serve start end so_far.dealt so_far.reads so_far.deals);
   }
 
-  pub ends_full : (brought brings : Option (List (List ℕ))) (start end : Standing S) → KeepsPromise either (desk_in start) → SoFar brought brings start end → ServesBrought g brought brings start end
-  ends_full brought brings start end promise so_far = ends brought brings brings start end promise so_far (brings_none brings)
+  pub ends_full : (old new : Option (List Dealt)) (start end : Standing S) → KeepsPromise either (desk_in start) → SoFar old new start end → ServesEach hosts since g old new start end
+  ends_full old new start end promise so_far = ends old new new start end promise so_far (grows_none new)

@@ -303,8 +303,3 @@ all_keep g start end read promise serves = record {
   held = λ replies. all_held g start end read replies serves;
   failed = λ replies held going stopped. all_failed g start end read replies promise serves held going stopped;
 }
-
--- one exchange more
-pub all_one_more : {S : Type 0} (g : Ghosts S) (start mid end : Standing S) (before : List (Option Asked)) (read : Option Asked) → ServesAll g start before mid → ServesOne g mid read end → ServesAll g start (before ++ read ∷ []) end
-all_one_more {S} g start mid end [] read same one = (end, subst (λ (s : Standing S). ServesOne g s read end) same one, refl)
-all_one_more g start mid end (first ∷ before) read (next, was, later) one = (next, was, all_one_more g next mid end before read later one)

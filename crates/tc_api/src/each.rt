@@ -1,7 +1,6 @@
 //! The exchanges of a server, one after the other.
-ghost use Rattle.std.specs.Prelude.{◌≡◌, ◌∷◌, [], None, IfSome, List, Option};
-ghost use Rattle.tc_front.specs.Front.{Asked};
-ghost use Rattle.tc_api.specs.Each.{Brings, ServesBrought};
+ghost use Rattle.std.specs.Prelude.{◌∷◌, [], List, Option};
+ghost use Rattle.tc_api.specs.Each.{Dealt, Grows, ServesEach};
 
 use crate::exchange::serve_one;
 use sqlite::Alter;
@@ -12,17 +11,17 @@ use tc_types::{Counted, Moment, Refusal};
 
 /// What brings requests to a desk, and takes what they are answered.
 pub trait Traffic {
-    /// The requests that it brought, in order, where a contract can name them.
-    ghost brought: { Self → Option (List (List ℕ)) };
+    /// What came of the requests that it brought, in order, where a contract can name that.
+    ghost dealt: { Self → Option (List Dealt) };
 
     /// The next request that came whole; none once no more comes.
     fn next(&mut self) -> Option<Vec<u8>>
-        ensures some { IfSome result (λ text. Brings (brought self.old) (brought self.new) (text.items ∷ [])) }
-        ensures none { result ≡ None → Brings (brought self.old) (brought self.new) [] };
+        ensures { Grows (dealt self.old) (dealt self.new) [] };
 
-    /// Takes what the request that came last is answered: its response, or why that is not whole; and whether the desk has stopped.
-    fn answer(&mut self, served: Result<(), Refusal>, response: Vec<u8>, stopped: bool)
-        ensures { Brings (brought self.old) (brought self.new) [] };
+    /// Takes what the request with this text, which came last, is answered: all that was written of its response, and why that is not whole, if it is not; and whether the
+    /// desk has stopped.
+    fn answer(&mut self, text: &[u8], served: Result<(), Refusal>, response: Vec<u8>, stopped: bool)
+        ensures { Grows (dealt self.old) (dealt self.new) (record { text = text.now; result = served; response = response.items } ∷ []) };
 }
 
 /// Serves the requests that come, one after the other, with a desk that was opened at this moment, until no more come.
@@ -33,8 +32,8 @@ pub fn serve_each<T: Traffic, S: Alter + Drop>(
     traffic: &mut T,
     room: &mut Room<S>,
 )
-    // each request makes one exchange, and the promise is kept after all of them
-    ensures { ServesBrought S.Store (T.brought traffic.old) (T.brought traffic.new) room.old room.new }
+    // each request makes one exchange, and README's promise is kept after all of them
+    ensures { ServesEach door.now since S.Store (T.dealt traffic.old) (T.dealt traffic.new) room.old room.new }
 {
     // read for the proof alone: the promise is kept
     let _opened = room.opened();
@@ -45,6 +44,6 @@ pub fn serve_each<T: Traffic, S: Alter + Drop>(
         let mut reader = Counted::new(text.as_slice());
         let mut writer = Counted::new(Vec::new(alloc));
         let served = serve_one(alloc, door, since, &mut reader, &mut writer, room);
-        traffic.answer(served, writer.into_inner(), room.stopped());
+        traffic.answer(&text, served, writer.into_inner(), room.stopped());
     }
 }

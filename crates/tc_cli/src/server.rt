@@ -385,7 +385,7 @@ impl<'a> Server<'a> {
 }
 
 impl Traffic for Server<'_> {
-    ghost brought = { λ _. None };
+    ghost dealt = { λ _. None };
 
     /// The request that became whole first, once one is. None once it has ended and no connection is open, and if the port can no longer be waited for.
     fn next(&mut self) -> Option<Vec<u8>> {
@@ -406,7 +406,13 @@ impl Traffic for Server<'_> {
         None
     }
 
-    fn answer(&mut self, served: Result<(), Refusal>, response: Vec<u8>, stopped: bool) {
+    fn answer(
+        &mut self,
+        _text: &[u8],
+        served: Result<(), Refusal>,
+        response: Vec<u8>,
+        stopped: bool,
+    ) {
         if !self.send(served, response) {
             put_peer(&mut self.peers, self.serving, None);
         }
