@@ -20,7 +20,7 @@ use Rattle.tc_room.specs.Calls.{FailsOnce, KeepsAll, Makes, Making, kept_for}
 use Rattle.tc_room.specs.Crash.{HasRows, Leaves, ledger_of}
 use Rattle.tc_room.specs.Joined.{HoldsBook, IsKept, Standing, desk_in}
 use Rattle.tc_room.specs.Replies.{ended}
-use Rattle.tc_room.specs.Opening.{OpensLeft}
+use Rattle.tc_room.specs.Opening.{OpensLeft, OpensTo}
 use Rattle.tc_room.specs.Room.{FailsStore}
 use Rattle.tc_room.specs.declared.callers.Caller.{Caller}
 use Rattle.tc_api.specs.Acts.{ActCall, JudgesActPost}
@@ -110,15 +110,29 @@ pub data Stage : Type 0 where
   exchange : Option Asked → Stage
   opening : Stage
 
--- The next room was opened at a moment over tables that a crash, or the end of the program, may have left of the last one's, whichever rows they are read as. The
--- disk had given back what was written. Its book is one that a room keeps, as that of each room is.
+-- an opening that was refused: with which choice and at which moment it was tried
+pub record Refused : Type 0 where
+  pub config : Config
+  pub moment : ℕ
+
+-- These openings were refused one after the other. Each left what it found, or, if a crash ended it, the whole of what it makes of the rows that it found.
+abbrev pub RefusesAll : Trees → List Refused → Trees → Type 0
+RefusesAll from [] left = left ≡ from
+RefusesAll from (refused ∷ others) left =
+    (mid : Trees) × ((mid ≡ from) ⊎ ((ledger : Ledger) → HasRows from ledger → OpensTo refused.config refused.moment ledger mid)) × RefusesAll mid others left
+
+-- The next room was opened at a moment over tables that a crash, or the end of the program, may have left of the last one's, and openings that were refused of these,
+-- whichever rows they are read as. The disk had given back what was written. Its book is one that a room keeps, as that of each room is.
 pub record OpensNext {S : Type 0} (g : Ghosts S) (last next : Standing S) : Type 0 where
   pub config : Config
   pub moment : ℕ
   pub moves : List Move
-  pub trees : Trees
+  pub from : Trees
   pub clean : HasCleanDisk (state g last.tables)
-  pub left : ∥ (state g last.tables).may_leave trees ∥₁
+  pub left : ∥ (state g last.tables).may_leave from ∥₁
+  pub refused : List Refused
+  pub trees : Trees
+  pub refuses_all : RefusesAll from refused trees
   pub opened : (ledger : Ledger) → IsTold ledger.image → HasRows trees ledger → OpensLeft g config moment ledger moves next
   pub kept : IsKept next.desk.book
 
