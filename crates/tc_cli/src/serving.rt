@@ -8,9 +8,10 @@ use sqlite_store::FileStore;
 use std::io;
 use std::net::{Ipv4Addr, SocketAddr};
 use tc_closed::ScriptFault;
+use tc_front::Door;
 use tc_host::{Because, Unusable, of_tables, open_desk, opening_fault, tell_opening};
 use tc_run::{Opening, latest_moment, open_told};
-use tc_types::{Counted, Moment};
+use tc_types::Counted;
 use tc_words::Service;
 
 /// Why a desk is not served, or no longer.
@@ -73,6 +74,7 @@ fn ended(rt: &HostRuntime, service: &Service<'_>, end: End) -> Result<(), Servic
 fn serve_by(
     rt: &HostRuntime,
     mut server: Server<'_>,
+    door: &Door,
     file: &str,
     opening: &Opening,
     service: &Service<'_>,
@@ -84,11 +86,8 @@ fn serve_by(
             let port = service.port;
             tell_opening(rt, opening.moment, latest_moment(&room));
             let _ = eprintln!(rt; "tcdesk: listening on 127.0.0.1:{port}");
-            let served = match server.serve(&mut room) {
-                Ok(end) => ended(rt, service, end),
-                Err(_) => Err(ServiceFault::Port(port)),
-            };
-            closed(room.into_connection(), served)
+            let end = server.serve(door, opening.moment, &mut room);
+            closed(room.into_connection(), ended(rt, service, end))
         }
         Err(left) => closed(left.store, Err(ServiceFault::from(left.fault))),
     }
@@ -98,11 +97,10 @@ fn serve_by(
 fn listening<'a>(
     rt: &'a HostRuntime,
     service: &'a Service<'a>,
-    since: Moment,
 ) -> Result<Server<'a>, ServiceFault> {
     let address = SocketAddr::from((Ipv4Addr::LOCALHOST, service.port));
     let listener = TcpListener::bind(rt, address).map_err(|_| ServiceFault::Port(service.port))?;
-    Server::new(rt, listener, service, since).map_err(|error| match error.kind() {
+    Server::new(rt, listener, service).map_err(|error| match error.kind() {
         io::ErrorKind::OutOfMemory => ServiceFault::from(ScriptFault::Memory),
         io::ErrorKind::PermissionDenied => ServiceFault::Input,
         _ => ServiceFault::Port(service.port),
@@ -118,11 +116,17 @@ pub fn serve(
     opening: &Opening,
     service: &Service<'_>,
 ) -> Result<(), ServiceFault> {
-    match listening(rt, service, opening.moment) {
-        Ok(server) => serve_by(rt, server, file, opening, service),
-        Err(fault) => {
+    let listens = listening(rt, service);
+    let door = Door::new(rt.alloc(), service.port, service.host);
+    match (listens, door) {
+        (Ok(server), Ok(door)) => serve_by(rt, server, &door, file, opening, service),
+        (Err(fault), _) => {
             opening_fault(rt, file)?;
             Err(fault)
+        }
+        (_, Err(_)) => {
+            opening_fault(rt, file)?;
+            Err(ServiceFault::from(ScriptFault::Memory))
         }
     }
 }

@@ -17,7 +17,7 @@ use Rattle.tc_desk.specs.Machine.{stamp_of}
 use Rattle.tc_desk.specs.Replies.{Reply, refusal_reply}
 use Rattle.tc_store.specs.Ledgers.{IsKeptText, KeptAnswer}
 use Rattle.tc_room.specs.declared.callers.Caller.{Caller}
-use Rattle.tc_room.specs.Calls.{ActsAnew, AnswersActCall, AnswersCall, AnswersLoadCall, FailsOnce, KeepsAll, LoadsAnew, MakesNothing, MakesOnce, StaysSo, kept_after, kept_for, kept_once, kept_with}
+use Rattle.tc_room.specs.Calls.{ActsAnew, AnswersActCall, AnswersCall, AnswersLoadCall, FailsLook, KeepsAll, LoadsAnew, MakesOnce, StaysSo, kept_after, kept_for, kept_once, kept_with}
 use Rattle.tc_room.specs.Crash.{ledger_of}
 use Rattle.tc_room.specs.Joined.{HasLedger, HoldsBook, LinkState, Standing}
 use Rattle.tc_room.specs.Replies.{AreLines, ended, is_refused}
@@ -200,12 +200,12 @@ module _ {S : Type 0} (g : Ghosts S) (replies : List KeptAnswer) (caller : Calle
 
   -- what a call is answered
   abbrev IsAnswered : Type 0 → Type 0
-  IsAnswered Anew = FailsOnce g replies caller MakesNothing old reply new
+  IsAnswered Anew = FailsLook g replies caller old reply new
       ⊎ ((kept_for replies caller ≡ Some (ended reply)) × (is_refused reply ≡ false) × (acts ≡ true) × StaysSo g replies old new)
       ⊎ ((kept_for replies caller ≡ None) × Anew)
 
   answered_held : (Anew : Type 0) → (kept_for replies caller ≡ None → Anew → HoldsAfter) → IsAnswered Anew → HoldsAfter
-  answered_held Anew anew (inl fails) = λ going. not_going new.stopped fails.stopped going
+  answered_held Anew anew (inl fails) = λ going. not_going new.stopped fails.fails.stopped going
   answered_held Anew anew (inr (inl (kept, granted, is, stays))) = stays_held (same_kept replies caller acts reply (ended reply) kept) stays
   answered_held Anew anew (inr (inr (none, made))) = anew none made
 
