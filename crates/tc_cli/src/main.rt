@@ -43,7 +43,7 @@ use tc_host::{
 };
 use tc_run::{Opening, run_kept, run_script};
 use tc_types::{Counted, LoadKind, Moment};
-use tc_words::{Program, Service, Telling, UsageFault, carry_out, read_words};
+use tc_words::{Numbers, Program, Service, Telling, UsageFault, carry_out, read_words};
 use tc_world::Config;
 
 /// The words where none are given.
@@ -154,7 +154,7 @@ impl Program for HostProgram<'_> {
         script: &str,
         config: Config,
         moment: Moment,
-        first: u32,
+        numbers: Numbers,
         telling: Telling,
     ) -> u8 {
         loop_in(
@@ -162,7 +162,7 @@ impl Program for HostProgram<'_> {
             script,
             database,
             &Opening { config, moment },
-            first,
+            numbers,
             telling,
         )
     }
@@ -180,11 +180,11 @@ fn loop_in(
     script: &str,
     database: &str,
     opening: &Opening,
-    first: u32,
+    numbers: Numbers,
     telling: Telling,
 ) -> u8 {
     tell_waiting(rt, script);
-    let ended = send_to_file(rt, script, database, opening, first, telling);
+    let ended = send_to_file(rt, script, database, opening, numbers, telling);
     service_status(rt, ended, script, database)
 }
 

@@ -9,5 +9,5 @@ mod lines;
 mod reading;
 
 pub use carrying::{Program, carry_out};
-pub use lines::{CommandLine, Service, Telling, UsageFault};
+pub use lines::{CommandLine, Numbers, Service, Telling, UsageFault};
 pub use reading::read_words;
