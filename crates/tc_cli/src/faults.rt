@@ -3,10 +3,12 @@
 use crate::serving::ServiceFault;
 use tc_closed::ScriptFault;
 use tc_copy::MOST_COPIES;
+use tc_hex::problem;
 use tc_host::{
     Because, CopyFault, Unusable, why_no_desk, why_no_opening, why_no_script, why_uncopied,
     why_unread, why_unwritable,
 };
+use tc_octets::ProfileFault;
 
 /// The exit status of a fault: of usage, of a file or of memory.
 pub(crate) const UNUSABLE: u8 = 2;
@@ -43,6 +45,15 @@ pub(crate) fn cannot_read(rt: &HostRuntime, path: &str) -> u8 {
 /// Says that a script cannot be read, and why.
 pub(crate) fn cannot_read_script(rt: &HostRuntime, path: &str) -> u8 {
     cannot_use_so(rt, path, why_no_script(rt, path))
+}
+
+/// Says that the text of a file is no profile, and why.
+pub(crate) fn no_profile(rt: &HostRuntime, path: &str, fault: ProfileFault) -> u8 {
+    let status = cannot_use(rt, path);
+    if let Ok(words) = problem(rt.alloc(), fault) {
+        let _ = eprintln!(rt; "tcdesk: because {words}");
+    }
+    status
 }
 
 /// The exit status of what ended with a fault that needs no name of a file. None where it needs one.

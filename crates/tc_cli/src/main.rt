@@ -14,6 +14,8 @@
 //!
 //! `tcdesk check KIND FILE` says what is wrong with a script, or with the file of a stack or of a procedure.
 //!
+//! `tcdesk octets LAYER HEX` says what octets of the link mean, field by field, or what is wrong with them and where.
+//!
 //! `tcdesk serve DB PORT [COUNT]` serves that desk over HTTP at a port of 127.0.0.1.
 //! `tcdesk loop DB SCRIPT` sends the lines of a script over HTTP to a desk that it serves itself, and prints what is answered.
 #![tactic(auto)]
@@ -22,6 +24,7 @@ ghost use Rattle.std.specs.Prelude.{⊤};
 
 mod faults;
 mod looping;
+mod octets;
 mod peers;
 mod server;
 mod serving;
@@ -31,6 +34,7 @@ use faults::{
     run_status, service_status,
 };
 use looping::send_to_file;
+use octets::say_octets;
 use serving::serve;
 use std::alloc::{AllocError, Global};
 use std::io::IsTerminal;
@@ -43,7 +47,7 @@ use tc_host::{
 };
 use tc_run::{Opening, run_kept, run_script};
 use tc_types::{Counted, LoadKind, Moment};
-use tc_words::{Numbers, Program, Service, Telling, UsageFault, carry_out, read_words};
+use tc_words::{Layer, Numbers, Program, Service, Telling, UsageFault, carry_out, read_words};
 use tc_world::Config;
 
 /// The words where none are given.
@@ -142,6 +146,10 @@ impl Program for HostProgram<'_> {
 
     fn check_script(&self, file: &str) -> u8 {
         check_script_in(self.rt, file)
+    }
+
+    fn octets(&self, profile: Option<&str>, layer: Layer, octets: &str) -> u8 {
+        say_octets(self.rt, profile, layer, octets)
     }
 
     fn serve(&self, database: &str, service: Service<'_>, config: Config, moment: Moment) -> u8 {

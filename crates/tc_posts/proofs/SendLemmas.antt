@@ -51,15 +51,15 @@ pub asked_more : (port : ℕ) (lines : List Line) (line : Line) (steps last : Li
 asked_more port [] line steps last used here are is =
     (last, [], here, [], ap (λ (l : List Step). l ++ last) are.0 ∙ sym (append-nil last), ap (λ (l : List ℕ). l ++ here) are.1 ∙ sym (append-nil here), is, (refl, refl))
 asked_more port (other ∷ lines) line steps last used here are is = (
-      are.0,
-      are.1 ++ last,
-      are.2,
-      are.3 ++ here,
-      ap (λ (l : List Step). l ++ last) are.4 ∙ append_assoc are.0 are.1 last,
-      ap (λ (l : List ℕ). l ++ here) are.5 ∙ append_assoc are.2 are.3 here,
-      are.6,
-      asked_more port lines line are.1 last are.3 here are.7 is,
-    )
+  are.0,
+  are.1 ++ last,
+  are.2,
+  are.3 ++ here,
+  ap (λ (l : List Step). l ++ last) are.4 ∙ append_assoc are.0 are.1 last,
+  ap (λ (l : List ℕ). l ++ here) are.5 ∙ append_assoc are.2 are.3 here,
+  are.6,
+  asked_more port lines line are.1 last are.3 here are.7 is,
+)
 
 -- the next line is
 pub asked_next : (port : ℕ) (lines : List NumberedLine) (i : ℕ) (d : NumberedLine) (steps last : List Step) (used here : List ℕ) → i < length lines

@@ -40,7 +40,7 @@ pub data Completes (port : ℕ) : Answer → List Step → Answer → Type 0 whe
   IsWhole : (answer : Answer) → answer.more ≡ 0 → Completes port answer [] answer
   IsCut : (answer : Answer) → answer.last ≡ None → Completes port answer [] answer
   Asks : (answer next last : Answer) (after : ℕ) (response : List ℕ) (steps : List Step) → 0 < answer.more → answer.last ≡ Some after
-    → GoesOn response answer next → Completes port next steps last → Completes port answer (sent (moves_bytes port after) response ∷ steps) last
+      → GoesOn response answer next → Completes port next steps last → Completes port answer (sent (moves_bytes port after) response ∷ steps) last
 
 -- ---- what is said of lines that are left out
 

@@ -67,7 +67,9 @@ pub(crate) fn used_numbers<C: Client>(
 fn range_note(alloc: Global, first: u64, last: u64) -> Result<String, AllocError>
     ensures { IfOk result (λ note. string_bytes note ≡ range_note first last) }
 {
-    format!(in alloc; "numbers {first} to {last} are used: their replies are those of the first run")
+    format!(in alloc;
+        "numbers {first} to {last} are used: their replies are those of the first run"
+    )
 }
 
 /// Says that so many numbers are used, of which this is the first and that the last.

@@ -23,7 +23,8 @@ pub record Terms : Type 0 where
 -- A command with what it was given. Where a desk is made or opened, its window, its channel and how many items the rings of its links hold,
 -- where they are rings, and what stands for the moment of its opening; where it is kept in a file, that file. A run has a script, and whether each line is shown before its answer and all is
 -- told; a report what stands for FROM and TO; a backup the file that is copied to; a wall its file alone; a server its terms; a loop a script, the number of
--- the first line that it sends, whether all numbers have to be new, and what a run has besides; a check what stands for KIND, and a file.
+-- the first line that it sends, whether all numbers have to be new, and what a run has besides; a check what stands for KIND, and a file; octets the file of a profile,
+-- if one was given, what stands for LAYER, and for HEX.
 pub data Asked : Type 0 where
   run : (script : Text) (window channel : ℕ) (ring : Option ℕ) (moment : Text) (echo verbose : Bool) → Asked
   run_kept : (script : Text) (window channel : ℕ) (ring : Option ℕ) (database moment : Text) (echo verbose : Bool) → Asked
@@ -31,6 +32,7 @@ pub data Asked : Type 0 where
   backup : (database copy : Text) → Asked
   wall : (database : Text) → Asked
   check : (kind file : Text) → Asked
+  octets : (profile : Option Text) (layer hex : Text) → Asked
   serve : (database : Text) (terms : Terms) (window channel : ℕ) (ring : Option ℕ) (moment : Text) → Asked
   loop : (database script : Text) (window channel : ℕ) (ring : Option ℕ) (moment : Text) (first : ℕ) (only_new echo verbose : Bool) → Asked
 
@@ -140,6 +142,10 @@ script_word = codes "script"
 abbrev pub asked_check : List Row → Asked
 asked_check rows = check (given (codes "KIND") rows) (given (codes "FILE") rows)
 
+-- what octets were given
+abbrev pub asked_octets : List Row → Asked
+asked_octets rows = octets (first_of (codes "profile") rows) (given (codes "LAYER") rows) (given (codes "HEX") rows)
+
 -- what a server was given
 abbrev pub asked_serve : List Row → Asked
 asked_serve rows = serve (given (codes "DB") rows) (given_terms rows) (given_window rows) (given_channel rows) (given_ring rows) (given_moment rows)
@@ -157,6 +163,7 @@ asked_of name rows =
     if bytes_eq name (codes "backup") then asked_backup rows else
     if bytes_eq name (codes "board") then asked_wall rows else
     if bytes_eq name (codes "check") then asked_check rows else
+    if bytes_eq name (codes "octets") then asked_octets rows else
     if bytes_eq name (codes "serve") then asked_serve rows else
     if bytes_eq name (codes "loop") then asked_loop rows else asked_run rows
 

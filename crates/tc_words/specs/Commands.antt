@@ -23,6 +23,21 @@ kind_rule = required_rule (codes "KIND")
 abbrev pub checked_rule : Rule
 checked_rule = required_rule (codes "FILE")
 
+-- --profile FILE: the file that says how the link is set
+abbrev pub profile_rule : Rule
+profile_rule = record (new_rule (codes "profile")) {
+  long = Some (codes "profile");
+  value_names = 1;
+}
+
+-- LAYER: what octets are
+abbrev pub layer_rule : Rule
+layer_rule = required_rule (codes "LAYER")
+
+-- HEX: octets, or `-` for the lines of the standard input
+abbrev pub hex_rule : Rule
+hex_rule = required_rule (codes "HEX")
+
 -- DB: the database file that keeps a desk
 abbrev pub file_rule : Rule
 file_rule = required_rule (codes "DB")
@@ -168,6 +183,10 @@ wall_app = with_rule (new_app (codes "board")) file_rule
 abbrev pub check_app : App
 check_app = with_rule (with_rule (new_app (codes "check")) kind_rule) checked_rule
 
+-- octets [--profile FILE] LAYER HEX
+abbrev pub octets_app : App
+octets_app = with_rule (with_rule (with_rule (new_app (codes "octets")) profile_rule) layer_rule) hex_rule
+
 -- .. [--w N] [--vc N] [--ring N] [--at MOMENT]
 abbrev pub with_desk : App → App
 with_desk app = with_rule (with_link app) moment_rule
@@ -215,10 +234,14 @@ with_wall app = with_subcommand app wall_app.top
 abbrev pub with_check : App → App
 with_check app = with_subcommand app check_app.top
 
+-- .. with the one that says what octets mean
+abbrev pub with_octets : App → App
+with_octets app = with_subcommand app octets_app.top
+
 -- .. and with those that serve a desk over HTTP
 abbrev pub with_http : App → App
 with_http app = with_subcommand (with_subcommand app serve_app.top) loop_app.top
 
 -- the program, with its commands
 abbrev pub desk_app : App
-desk_app = with_http (with_check (with_wall (with_backup script_apps)))
+desk_app = with_http (with_octets (with_check (with_wall (with_backup script_apps))))

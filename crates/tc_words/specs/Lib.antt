@@ -1,3 +1,4 @@
 pub mod Asked
 pub mod Commands
+pub mod Layers
 pub mod Lines

@@ -7,12 +7,14 @@ use Rattle.tc_types.specs.Loads.{kind_word}
 use Rattle.tc_types.specs.declared.loads.LoadKind.{LoadKind}
 use Rattle.tc_world.specs.Config.{IsConfig}
 use Rattle.tc_world.specs.declared.configs.Config.{Config}
-use Rattle.tc_words.specs.Asked.{Asked, SpellsMoment, SpellsNoMoment, Terms, backup, wall, check, loop, report, run, run_kept, script_word, serve}
+use Rattle.tc_words.specs.Asked.{Asked, SpellsMoment, SpellsNoMoment, Terms, backup, wall, check, loop, octets, report, run, run_kept, script_word, serve}
+use Rattle.tc_words.specs.Layers.{layer_word}
+use Rattle.tc_words.specs.declared.layers.Layer.{Layer}
 use Rattle.tc_words.specs.declared.lines.CommandLine.{CommandLine}
-use Rattle.tc_words.specs.declared.lines.CommandLine.TheVariants.{Backup, Wall, Check, CheckScript, Loop, Report, Run, RunKept, Serve}
+use Rattle.tc_words.specs.declared.lines.CommandLine.TheVariants.{Backup, Wall, Check, CheckScript, Loop, Octets, Report, Run, RunKept, Serve}
 use Rattle.tc_words.specs.declared.lines.Service.{Service}
 use Rattle.tc_words.specs.declared.lines.UsageFault.{UsageFault}
-use Rattle.tc_words.specs.declared.lines.UsageFault.TheVariants.{Memory, NoKind, NoMoment, NoOpening, OddWindow, Words}
+use Rattle.tc_words.specs.declared.lines.UsageFault.TheVariants.{Memory, NoKind, NoLayer, NoMoment, NoOpening, OddWindow, Words}
 
 -- the terms of a server, with the bytes of its name
 abbrev pub terms_of : Service → Terms
@@ -30,7 +32,7 @@ abbrev pub ends_with_desk : Service → Bool
 ends_with_desk service = is_none service.count || service.end_when_stopped
 
 -- A line asks for this. What stands for the moment of an opening, and for a report's FROM and TO, spells it, also where a new desk is not opened at any; the KIND of a check is the word of its
--- kind, or that of a script.
+-- kind, or that of a script; the LAYER of octets is the word of their layer.
 abbrev pub AsksFor : CommandLine → Asked → Type 0
 AsksFor (Run script config telling) asked =
     (begins : Text) × (moment : ℕ) × SpellsMoment moment begins
@@ -44,6 +46,7 @@ AsksFor (Backup database copy) asked = asked ≡ backup database.now copy.now
 AsksFor (Wall database) asked = asked ≡ wall database.now
 AsksFor (Check kind file) asked = asked ≡ check (kind_word kind) file.now
 AsksFor (CheckScript file) asked = asked ≡ check script_word file.now
+AsksFor (Octets profile layer hex) asked = asked ≡ octets (option_map (λ path. path.now) profile) (layer_word layer) hex.now
 AsksFor (Serve database service config moment) asked =
     (begins : Text) × SpellsMoment moment begins × (asked ≡ serve database.now (terms_of service) config.window config.channel config.ring begins)
 AsksFor (Loop database script config moment numbers telling) asked =
@@ -59,6 +62,7 @@ config_of (Backup database copy) = None
 config_of (Wall database) = None
 config_of (Check kind file) = None
 config_of (CheckScript file) = None
+config_of (Octets profile layer hex) = None
 config_of (Serve database service config moment) = Some config
 config_of (Loop database script config moment numbers telling) = Some config
 
@@ -75,6 +79,7 @@ AsksOddWindow (report database begins ends) = ⊥
 AsksOddWindow (backup database copy) = ⊥
 AsksOddWindow (wall database) = ⊥
 AsksOddWindow (check kind file) = ⊥
+AsksOddWindow (octets profile layer hex) = ⊥
 AsksOddWindow (serve database terms window channel ring moment) = window % 2 ≡ 1
 AsksOddWindow (loop database script window channel ring moment first only_new echo verbose) = window % 2 ≡ 1
 
@@ -96,12 +101,18 @@ abbrev pub AsksNoKind : Asked → Text → Type 0
 AsksNoKind (check kind file) word = (word ≡ kind) × ((some : LoadKind) → ¬ (word ≡ kind_word some)) × (¬ (word ≡ script_word))
 AsksNoKind other word = ⊥
 
+-- octets are asked for, whose LAYER is this word, which is that of no layer
+abbrev pub AsksNoLayer : Asked → Text → Type 0
+AsksNoLayer (octets profile layer hex) word = (word ≡ layer) × ((some : Layer) → ¬ (word ≡ layer_word some))
+AsksNoLayer other word = ⊥
+
 -- why what is asked for is not done, and the word that is wrong
 abbrev pub IsFaultOf : Asked → UsageFault → Type 0
 IsFaultOf asked OddWindow = AsksOddWindow asked
 IsFaultOf asked (NoMoment word) = AsksNoMoment asked word.now
 IsFaultOf asked (NoOpening word) = AsksNoOpening asked word.now
 IsFaultOf asked (NoKind word) = AsksNoKind asked word.now
+IsFaultOf asked (NoLayer word) = AsksNoLayer asked word.now
 IsFaultOf asked other = ⊥
 
 -- A fault is told only where it is so: an error of `clap` where `clap` finds such a fault in the words; and what is wrong with a word where

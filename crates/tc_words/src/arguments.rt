@@ -1,6 +1,6 @@
 //! The arguments of the commands: which have to be given, which values pass, and what stands where none is given.
 ghost use Rattle.std.specs.Prelude.{◌≡◌};
-ghost use Rattle.tc_words.specs.Commands.{channel_rule, checked_rule, copy_rule, count_rule, database_rule, echo_rule, end_when_stopped_rule, file_rule, first_rule, flag_rule, from_rule, host_rule, kind_rule, moment_rule, only_new_rule, port_rule};
+ghost use Rattle.tc_words.specs.Commands.{channel_rule, checked_rule, copy_rule, count_rule, database_rule, echo_rule, end_when_stopped_rule, file_rule, first_rule, flag_rule, from_rule, hex_rule, host_rule, kind_rule, layer_rule, moment_rule, only_new_rule, port_rule, profile_rule};
 ghost use Rattle.tc_words.specs.Commands.{required_rule, ring_rule, script_rule, to_rule, until_eof_rule, verbose_rule, window_rule};
 
 use clap::builder::ValueParser;
@@ -62,6 +62,37 @@ pub(crate) fn checked_arg<'a>(alloc: Global) -> Argument<'a>
         alloc,
         "FILE",
         "The file's path, or - for the standard input",
+    )
+}
+
+pub(crate) fn profile_arg<'a>(alloc: Global) -> Argument<'a>
+    ensures { result ≡ profile_rule }
+{
+    Argument {
+        arg: Arg::new(alloc, "profile")
+            .long("profile")
+            .value_name("FILE")
+            .help("The file of the link's profile [default: the standard profile]"),
+    }
+}
+
+pub(crate) fn layer_arg<'a>(alloc: Global) -> Argument<'a>
+    ensures { result ≡ layer_rule }
+{
+    required_arg(
+        alloc,
+        "LAYER",
+        "What the octets are: frame or cltu (upward), packet (either way) or tm (downward)",
+    )
+}
+
+pub(crate) fn hex_arg<'a>(alloc: Global) -> Argument<'a>
+    ensures { result ≡ hex_rule }
+{
+    required_arg(
+        alloc,
+        "HEX",
+        "The octets, as pairs of hexadecimal digits, or - for the lines of the standard input",
     )
 }
 

@@ -1,8 +1,9 @@
 //! Which call carries out a command line.
 ghost use Rattle.std.specs.Prelude.{ℕ};
 ghost use Rattle.tc_words.specs.declared.lines.CommandLine.{CommandLine as SomeLine};
-ghost use Rattle.tc_words.specs.declared.lines.CommandLine.TheVariants.{Backup, Check, CheckScript, Loop, Report, Run, RunKept, Serve, Wall};
+ghost use Rattle.tc_words.specs.declared.lines.CommandLine.TheVariants.{Backup, Check, CheckScript, Loop, Octets, Report, Run, RunKept, Serve, Wall};
 
+use crate::layers::Layer;
 use crate::lines::{CommandLine, Numbers, Service, Telling};
 use tc_types::{LoadKind, Moment};
 use tc_world::Config;
@@ -39,6 +40,9 @@ pub trait Program {
 
     fn check_script(&self, file: &str) -> u8
         ensures { carries self.now (CheckScript file.entry) result };
+
+    fn octets(&self, profile: Option<&str>, layer: Layer, octets: &str) -> u8
+        ensures { carries self.now (Octets profile.entry layer octets.entry) result };
 
     fn serve(&self, database: &str, service: Service<'_>, config: Config, moment: Moment) -> u8
         ensures { carries self.now (Serve database.entry service.entry config moment) result };
@@ -77,6 +81,11 @@ pub fn carry_out<P: Program>(program: &P, line: &CommandLine<'_>) -> u8
         CommandLine::Wall { database } => program.wall(*database),
         CommandLine::Check { kind, file } => program.check(*kind, *file),
         CommandLine::CheckScript { file } => program.check_script(*file),
+        CommandLine::Octets {
+            profile,
+            layer,
+            octets,
+        } => program.octets(*profile, *layer, *octets),
         CommandLine::Serve {
             database,
             service,

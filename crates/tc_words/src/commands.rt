@@ -1,13 +1,14 @@
 //! The program's commands, and the matches of words that name one.
 ghost use Rattle.std.specs.Prelude.{◌≡◌, [], IfErr, IfOk, OnOk, map, true};
 ghost use Rattle.clap.specs.Words.{HasKind, fault_of, kind_of, new_app, subcommand_of, subcommand_rows_of, takes, with_rule, with_subcommand};
-ghost use Rattle.tc_words.specs.Commands.{backup_app, bare_app, bare_serve_app, wall_app, check_app, desk_app, loop_app, report_app, run_app, script_apps, send_app, serve_app};
-ghost use Rattle.tc_words.specs.Commands.{with_backup, with_wall, with_check, with_database, with_desk, with_ends, with_http, with_link, with_numbers, with_told};
+ghost use Rattle.tc_words.specs.Commands.{backup_app, bare_app, bare_serve_app, wall_app, check_app, desk_app, loop_app, octets_app, report_app, run_app, script_apps, send_app, serve_app};
+ghost use Rattle.tc_words.specs.Commands.{with_backup, with_wall, with_check, with_database, with_desk, with_ends, with_http, with_link, with_numbers, with_octets, with_told};
 
 use crate::arguments::{
     Argument, channel_arg, checked_arg, copy_arg, count_arg, database_arg, echo_arg,
-    end_when_stopped_arg, file_arg, first_arg, from_arg, host_arg, kind_arg, lines_arg, moment_arg,
-    only_new_arg, port_arg, read_file_arg, ring_arg, script_arg, to_arg, until_eof_arg, verbose_arg, window_arg,
+    end_when_stopped_arg, file_arg, first_arg, from_arg, hex_arg, host_arg, kind_arg, layer_arg,
+    lines_arg, moment_arg, only_new_arg, port_arg, profile_arg, read_file_arg, ring_arg,
+    script_arg, to_arg, until_eof_arg, verbose_arg, window_arg,
 };
 use clap::error::ErrorKind;
 use clap::{ArgMatches, Command};
@@ -30,7 +31,8 @@ Examples:
   tcdesk report desk.db 0 86400                what happened in it
   tcdesk backup desk.db copy.db                a copy of it, also while it runs
   tcdesk check script examples/monday.tc       what is wrong with its lines
-  tcdesk check stack examples/stack.csv        whether a stack can be loaded";
+  tcdesk check stack examples/stack.csv        whether a stack can be loaded
+  tcdesk octets frame 30010c070000416f         what these octets mean";
 
 /// A command with those below it, each of whose arguments is its own alone. A contract sees it as what it takes.
 #[derive(Drop)]
@@ -101,7 +103,8 @@ fn desk_command<'a>(alloc: Global) -> Result<Tree<'a>, AllocError>
 {
     let commands = with_backup(alloc, script_commands(alloc)?)?;
     let commands = with_wall(alloc, commands)?;
-    with_http(alloc, with_check(alloc, commands)?)
+    let commands = with_octets(alloc, with_check(alloc, commands)?)?;
+    with_http(alloc, commands)
 }
 
 /// The program with the commands that run a script, or print what one came to.
@@ -132,6 +135,13 @@ fn with_check<'a>(alloc: Global, command: Tree<'a>) -> Result<Tree<'a>, AllocErr
     ensures { IfOk result (λ more. more ≡ with_check command.entry) }
 {
     command.subcommand(check_command(alloc)?)
+}
+
+/// With the command that says what octets mean.
+fn with_octets<'a>(alloc: Global, command: Tree<'a>) -> Result<Tree<'a>, AllocError>
+    ensures { IfOk result (λ more. more ≡ with_octets command.entry) }
+{
+    command.subcommand(octets_command(alloc)?)
 }
 
 /// With the commands that serve a desk over HTTP.
@@ -245,6 +255,19 @@ fn check_command<'a>(alloc: Global) -> Result<Tree<'a>, AllocError>
     )
     .arg(kind_arg(alloc))?
     .arg(checked_arg(alloc))
+}
+
+fn octets_command<'a>(alloc: Global) -> Result<Tree<'a>, AllocError>
+    ensures { IfOk result (λ octets. octets ≡ octets_app) }
+{
+    Tree::new(
+        alloc,
+        "octets",
+        "Say what octets of the link mean, field by field, or what is wrong and where",
+    )
+    .arg(profile_arg(alloc))?
+    .arg(layer_arg(alloc))?
+    .arg(hex_arg(alloc))
 }
 
 fn serve_command<'a>(alloc: Global) -> Result<Tree<'a>, AllocError>

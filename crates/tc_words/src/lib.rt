@@ -5,9 +5,11 @@ mod arguments;
 mod carrying;
 mod commands;
 mod given;
+mod layers;
 mod lines;
 mod reading;
 
 pub use carrying::{Program, carry_out};
+pub use layers::Layer;
 pub use lines::{CommandLine, Numbers, Service, Telling, UsageFault};
 pub use reading::read_words;

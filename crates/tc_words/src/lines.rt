@@ -2,6 +2,7 @@
 ghost use Rattle.std.specs.Prelude.{◌≡◌};
 ghost use Rattle.tc_words.specs.Lines.{ends_with_desk};
 
+use crate::layers::Layer;
 use clap::error::ErrorKind;
 use tc_types::{LoadKind, Moment};
 use tc_world::Config;
@@ -92,6 +93,13 @@ pub enum CommandLine<'a> {
     CheckScript {
         file: &'a str,
     },
+    /// Say what octets of a layer of the link mean, in hexadecimal digits, or each line of the standard input if they are `-`. The text of the
+    /// file `profile` says how the link is set; without one it is set as the standard profile is.
+    Octets {
+        profile: Option<&'a str>,
+        layer: Layer,
+        octets: &'a str,
+    },
     /// Serve the desk that a database file keeps, opened at a moment, over HTTP on this machine alone.
     Serve {
         database: &'a str,
@@ -129,6 +137,9 @@ pub enum UsageFault<'a> {
     /// What stands for KIND is none of `script`, `stack` and `procedure`.
     #[error("KIND is script, stack or procedure: {0}")]
     NoKind(&'a str),
+    /// What stands for LAYER is none of `frame`, `cltu`, `packet` and `tm`.
+    #[error("LAYER is frame, cltu, packet or tm: {0}")]
+    NoLayer(&'a str),
     /// There was no memory to read the words.
     #[error("cannot use memory")]
     Memory,

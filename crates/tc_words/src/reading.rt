@@ -1,7 +1,7 @@
 //! The reading of a command line's words.
 ghost use Rattle.std.specs.Prelude.{◌≡◌, ◌⊎◌, [], IfErr, IfOk, OnOk, map, true};
 ghost use Rattle.clap.specs.Words.{fault_of, found_of, rows_of, subcommand_of, subcommand_rows_of, takes};
-ghost use Rattle.tc_words.specs.Asked.{asked, asked_backup, asked_wall, asked_check, asked_loop, asked_of, asked_report, asked_run, asked_serve};
+ghost use Rattle.tc_words.specs.Asked.{asked, asked_backup, asked_wall, asked_check, asked_loop, asked_octets, asked_of, asked_report, asked_run, asked_serve};
 ghost use Rattle.tc_words.specs.Commands.{desk_app};
 ghost use Rattle.tc_words.specs.Lines.{IsFaultOf, IsLineFor, IsTold};
 
@@ -10,6 +10,7 @@ use crate::given::{
     config_of, numbers_of, path_of, service_of, spelled_kind, spelled_moment, spelled_opening,
     telling_of, text_of,
 };
+use crate::layers::spelled_layer;
 use crate::lines::{CommandLine, Telling, UsageFault};
 use clap::ArgMatches;
 use std::alloc::Global;
@@ -76,6 +77,8 @@ fn command_line_of<'a>(
         wall_line_of(matches)
     } else if name == "check" {
         check_line_of(matches)
+    } else if name == "octets" {
+        octets_line_of(matches)
     } else if name == "serve" {
         serve_line_of(matches)
     } else if name == "loop" {
@@ -152,6 +155,18 @@ fn check_line_of<'a>(matches: &ArgMatches<'a>) -> Result<CommandLine<'a>, UsageF
     }
     let kind = spelled_kind(word)?;
     Ok(CommandLine::Check { kind, file })
+}
+
+fn octets_line_of<'a>(matches: &ArgMatches<'a>) -> Result<CommandLine<'a>, UsageFault<'a>>
+    ensures line { IfOk result (λ line. IsLineFor line (asked_octets (rows_of (found_of matches.now)))) }
+    ensures fault { IfErr result (IsFaultOf (asked_octets (rows_of (found_of matches.now)))) }
+{
+    let layer = spelled_layer(text_of(matches, "LAYER"))?;
+    Ok(CommandLine::Octets {
+        profile: path_of(matches, "profile"),
+        layer,
+        octets: text_of(matches, "HEX"),
+    })
 }
 
 fn serve_line_of<'a>(matches: &ArgMatches<'a>) -> Result<CommandLine<'a>, UsageFault<'a>>

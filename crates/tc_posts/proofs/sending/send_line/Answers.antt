@@ -17,7 +17,7 @@ returns g c =
     let bytes : c.as_bytes.result.now ≡ post_bytes c.args.port post.0 c.args.line.now.number = c.as_bytes.ensures.value ∙ post.2 in (
       sent c.as_bytes.result.now asked.0 ∷ completed.0 ++ shows,
       g.met.C.Client.joined _ _ _ (sent c.as_bytes.result.now asked.0 ∷ []) (completed.0 ++ shows) asked.1
-      (g.met.C.Client.joined _ _ _ completed.0 shows completed.1 c.in_ok-show_answer.ensures),
+          (g.met.C.Client.joined _ _ _ completed.0 shows completed.1 c.in_ok-show_answer.ensures),
       (post.0, asked.0, first, last, completed.0, post.1, asked.2, completed.2, ap (λ (b : List ℕ). sent b asked.0 ∷ completed.0 ++ shows) bytes),
       refuses_at_end c.args.port first last completed.0 (shown c.args.line.now) completed.2,
     )
