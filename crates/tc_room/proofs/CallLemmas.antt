@@ -224,7 +224,7 @@ module _ {S : Type 0} (g : Ghosts S) (replies : List KeptAnswer) (caller : Calle
   load_call_held kind moment name csv answers held = call_held (λ replies acts reply new. LoadsAnew g kind moment name csv replies caller old acts reply new) (load_held kind moment name csv) answers held
 
   granted_kept : (Anew : Type 0) → acts ≡ true → is_refused reply ≡ false → IsAnswered Anew → kept_for (kept_after replies caller acts reply) caller ≡ Some (ended reply)
-  granted_kept Anew is granted (inl fails) = not_going (is_refused reply) (ap is_refused fails.reply ∙ refuses Store) granted
+  granted_kept Anew is granted (inl fails) = not_going (is_refused reply) (ap is_refused fails.fails.reply ∙ refuses Store) granted
   granted_kept Anew is granted (inr (inl (kept, _, _, _))) = after_kept replies caller acts reply (ended reply) kept
   granted_kept Anew is granted (inr (inr (none, made))) = after_new replies caller acts reply is none granted
 
@@ -237,7 +237,7 @@ module _ {S : Type 0} (g : Ghosts S) (replies : List KeptAnswer) (caller : Calle
 
   -- a call whose reply is kept is answered by that, and nothing is done; or its answer is a refusal
   same_answered : (Anew : Type 0) (body : List ℕ) → kept_for replies caller ≡ Some body → is_refused reply ≡ false → IsAnswered Anew → (ended reply ≡ body) × (acts ≡ true) × StaysSo g replies old new
-  same_answered Anew body kept granted (inl fails) = not_going (is_refused reply) (ap is_refused fails.reply ∙ refuses Store) granted
+  same_answered Anew body kept granted (inl fails) = not_going (is_refused reply) (ap is_refused fails.fails.reply ∙ refuses Store) granted
   same_answered Anew body kept granted (inr (inl (is, _, asks, stays))) = ((let e : (let some : Option (List ℕ) = Some (ended reply) in some) ≡ Some body = sym is ∙ kept in cc), asks, stays)
   same_answered Anew body kept granted (inr (inr (none, made))) = absurd (let e : (let some : Option (List ℕ) = Some body in some) ≡ None = sym kept ∙ none in cc)
 

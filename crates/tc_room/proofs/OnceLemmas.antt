@@ -34,14 +34,13 @@ use Rattle.tc_store.specs.Steps.{LeavesOnly}
 use Rattle.tc_room.specs.declared.callers.Caller.{Caller}
 use Rattle.tc_room.specs.declared.calls.Called.{Called}
 use Rattle.tc_room.specs.Answers.{Asks, Says}
-use Rattle.tc_room.specs.Calls.{ActsAnew, AnswersCall, AnswersMaking, AsksOnce, IsAnew, IsCalled, IsMadeOnce, JudgesActText, LoadsAnew, LooksUp, MakesOnce, StaysSo, kept_with, with_reply}
+use Rattle.tc_room.specs.Calls.{ActsAnew, AnswersCall, AsksOnce, IsAnew, IsCalled, IsMadeOnce, JudgesActText, LoadsAnew, LooksUp, MakesOnce, StaysSo, kept_with, with_reply}
 use Rattle.tc_room.specs.Crash.{HasRows, Leaves, ledger_of}
 use Rattle.tc_room.specs.Joined.{HasLedger, HoldsBook, Link, LinkState, Standing, desk_in}
 use Rattle.tc_room.specs.Replies.{AreLines, ended, is_refused}
 use Rattle.tc_room.specs.Room.{FailsStore, RoomStep, StepsDesk}
 use Rattle.tc_room.proofs.CallLemmas.{kept_as, kept_lines}
 use Rattle.tc_room.proofs.LoadLemmas.{on_false}
-use Rattle.tc_room.proofs.StopLemmas.{true_false}
 use Rattle.tc_room.proofs.TableLemmas.{left_by, made_or, only_ledger}
 
 -- ---- the tables
@@ -82,32 +81,30 @@ ok_text (Err e) text body same is = absurd (let none : Option (String Global) = 
 
 -- ---- what was made
 
--- what the tables tell of what was made
-abbrev pub MakesAnswer : {S : Type 0} → Ghosts S → Caller → (Reply → LinkState → Type 0) → Type 0 → Standing S → Result (String Global) Refusal → Standing S → Type 0
-MakesAnswer g caller Makes Free old result new = AnswersMaking g caller Makes Free (λ reply at. ⊤) old result new
-
 module _ {S : Type 0} (g : Ghosts S) (old new : Standing S) (caller : Caller) (Makes : Reply → LinkState → Type 0) (Free : Type 0) where
+  -- what the tables tell of it, with this reply
+  abbrev IsMade : Reply → Type 0
+  IsMade reply = IsAnew g (λ replies acts reply new. MakesOnce g replies caller Makes Free old reply new) old true reply new
+
   -- it was done
-  pub makes_done : (text : String Global) (reply : Reply) → string_bytes text ≡ ended reply → AreLines reply → is_refused reply ≡ false → Makes reply new.desk
+  pub makes_done : (reply : Reply) → Makes reply new.desk
       → ((replies : List KeptAnswer) → HoldsBook g old replies → HasCleanDisk (state g new.tables) → HasLedger g new.tables (ledger_of new.desk.book (kept_with replies caller reply)))
-      → new.opened ≡ old.opened → new.stopped ≡ false → MakesAnswer g caller Makes Free old (Ok text) new
-  makes_done text reply is lines granted makes holds opened goes =
-      (reply, is, lines, granted, tt, λ replies held clean. inl (record { desk = makes; tables = holds replies held clean; opened = opened; going = goes }))
+      → new.opened ≡ old.opened → new.stopped ≡ false → IsMade reply
+  makes_done reply makes holds opened goes = λ replies held clean. inl (record { desk = makes; tables = holds replies held clean; opened = opened; going = goes })
 
   -- the desk refused
   pub makes_refused : (refusal : Refusal) → Makes (refusal_reply refusal) new.desk
       → ((replies : List KeptAnswer) → HoldsBook g old replies → HasCleanDisk (state g new.tables) → HasLedger g new.tables (ledger_of new.desk.book replies))
-      → new.opened ≡ old.opened → new.stopped ≡ false → MakesAnswer g caller Makes Free old (Err refusal) new
-  makes_refused refusal makes holds opened goes =
-      (tt, λ replies held clean. inl (record { desk = makes; tables = holds replies held clean; opened = opened; going = goes }))
+      → new.opened ≡ old.opened → new.stopped ≡ false → IsMade (refusal_reply refusal)
+  makes_refused refusal makes holds opened goes = λ replies held clean. inl (record { desk = makes; tables = holds replies held clean; opened = opened; going = goes })
 
   -- the database failed
   pub makes_failed : Free → new.stopped ≡ true
       → ((replies : List KeptAnswer) → HoldsBook g old replies → HasCleanDisk (state g new.tables) → IsTrue (state g new.tables).is_open → Holds (state g new.tables).now (ledger_of old.desk.book replies))
       → ((replies : List KeptAnswer) → HoldsBook g old replies → HasCleanDisk (state g new.tables) → Leaves g new.tables (IsMadeOnce old.desk.book replies caller Makes))
-      → new.opened ≡ old.opened → MakesAnswer g caller Makes Free old (Err Store) new
+      → new.opened ≡ old.opened → IsMade (refusal_reply Store)
   makes_failed free stopped holds leaves opened =
-      (tt, λ replies held clean. inr (free, record { reply = refl; stopped = stopped; tables = holds replies held clean; crash = leaves replies held clean; opened = opened }))
+      λ replies held clean. inr (free, record { reply = refl; stopped = stopped; tables = holds replies held clean; crash = leaves replies held clean; opened = opened })
 
 -- ---- a room that looked at its kept replies is as it was but for its tables
 

@@ -1,5 +1,5 @@
 -- The link, the spacecraft and the mirror after something came to a room.
-use Rattle.std.proofs.Common.{◌≡◌, ◌⊎◌, inl, inr, Bool, List, ℕ, refl, sym, ap, subst}
+use Rattle.std.proofs.Common.{◌≡◌, inl, inr, Bool, List, ℕ, refl, sym, ap, subst}
 use Rattle.sqlite.specs.Held.{Held}
 use Rattle.tc_types.specs.declared.acts.Act.{Act}
 use Rattle.tc_types.specs.declared.link.frames.Frame.{Frame}
@@ -16,7 +16,7 @@ use Rattle.tc_desk.specs.Machine.{StaysSame}
 use Rattle.tc_desk.specs.Replies.{Reply}
 use Rattle.tc_desk.specs.State.{DeskState}
 use Rattle.tc_room.specs.Joined.{Link, LinkState, Standing, desk_in}
-use Rattle.tc_room.specs.Truth.{ActsTrue, CarriesOut, LeavesLink, TellsTextTrue, TellsTrue}
+use Rattle.tc_room.specs.Truth.{CarriesOut, LeavesLink, TellsTextTrue, TellsTrue}
 
 -- ---- what leaves the link, the spacecraft and the mirror
 

@@ -20,7 +20,7 @@ returns-in_err-done-clause-answered g c =
     rw (gone, ← c.self.view_is)
     (let made = makes_refused g.S.Store _ _ c.args.caller _ _ _ (load_refused _ _ _ _ _ why)
     (λ replies held clean. subst (λ (at : LinkState). HasLedger g.S.Store c.self.inside.tables (ledger_of at.book replies)) (sym why.same) (held going clean)) c.in_err-done.ensures.stays.opened going in
-    (link_refused _ _ _ _ _ why c.in_err-done.ensures.whole, made.1))
+    (link_refused _ _ _ _ _ why c.in_err-done.ensures.whole, made))
 
 pub returns-in-Some-clause-answered : goal.returns-in-Some-clause-answered
 returns-in-Some-clause-answered g c =
@@ -28,11 +28,11 @@ returns-in-Some-clause-answered g c =
     let loads = c.in_ok-done.ensures.loads in
     let granted = act_grants c.in_ok-done.done.first c.in_ok-done.done.said c.in_ok-done.done.moves.items in
     rw (← c.self.view_is)
-    (let made = makes_done g.S.Store _ _ c.args.caller _ _ c.in-Some.text (reply_to c.in_ok-done.done) c.in-Some.ensures.text.0 c.in-Some.ensures.text.1 granted
+    (let made = makes_done g.S.Store _ _ c.args.caller _ _ (reply_to c.in_ok-done.done)
     (load_carried _ _ _ _ _ _ _ loads.answers loads.made.moves)
     (λ replies held clean. kept_done g.S.Store c.self.inside.tables c.write_done.new.tables c.self.inside.desk.parts.book _ replies c.args.caller (reply_to c.in_ok-done.done) c.in_ok-done.done.batch.items granted loads.made.batch c.write_done.ensures.crash clean (held going) (c.in-Some.ensures.written clean) (c.in-Some.ensures.durable clean))
     c.in_ok-done.ensures.stays.opened going in
-    (made.0, made.1, made.2, made.3, link_loaded _ _ _ _ _ _ loads.answers c.in_ok-done.ensures.whole, made.5))
+    (reply_to c.in_ok-done.done, c.in-Some.ensures.text.0, c.in-Some.ensures.text.1, granted, link_loaded _ _ _ _ _ _ loads.answers c.in_ok-done.ensures.whole, made))
 
 pub returns-clause-answered : goal.returns-clause-answered
 returns-clause-answered g c =
@@ -45,7 +45,7 @@ returns-clause-answered g c =
     (λ replies held clean. leaves_done g.S.Store c.self.inside.tables c.write_done.new.tables c.self.inside.desk.parts.book _ replies c.args.caller (reply_to c.in_ok-done.done) c.in_ok-done.done.batch.items granted loads.made.batch c.write_done.ensures.crash clean (held going) _ (inl refl)
     (inr (_, _, load_carried _ _ _ _ _ _ _ loads.answers loads.made.moves, kept_book _ c.in_ok-done.ensures.stays.good, refl)))
     c.in_ok-done.ensures.stays.opened in
-    (link_loaded _ _ _ _ _ _ loads.answers c.in_ok-done.ensures.whole, made.1))
+    (link_loaded _ _ _ _ _ _ loads.answers c.in_ok-done.ensures.whole, made))
 
 pub returns-in_err-done-clause-keeps : goal.returns-in_err-done-clause-keeps
 returns-in_err-done-clause-keeps g c =
