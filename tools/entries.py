@@ -57,6 +57,8 @@ ENTRIES = (
           modules=("tests.test_plain_link",), takes_seed=True),
     Entry("octets", "the plain octets of a link: 186 worked cases, and 3,600 random values, with streams that are cut, joined, damaged and full of noise; headers beside tshark",
           modules=("tests.test_octets",), needs="tshark, or its case is not tried", takes_seed=True),
+    Entry("octets-command", "what `octets` prints beside a plain reading: cases by hand, the octets of the 186 worked ones, 2,000 random texts; profiles, long lines, words",
+          modules=("tests.test_octets_command",), takes_seed=True),
     Entry("written", "what lies in each column of each table, written out by hand", modules=("tests.test_written",)),
     Entry("views", "what the views of examples/views.sql tell of a file: what waits for a person, beside the plain desk and by hand",
           modules=("tests.test_views",), needs="sqlite3 for the stock shell, or that is not tried", takes_seed=True),

@@ -1,150 +1,19 @@
 """What octets of a link mean, plainly: the lines that `tcdesk octets` prints, field by field, or what is wrong and where. It is written from the public
-standards (CCSDS 232.0-B, 231.0-B, 133.0-B, 132.0-B; ECSS-E-ST-70-41C) over the plain octets, and asks the program nothing.
+standards (CCSDS 232.0-B, 231.0-B, 132.0-B) over the plain octets, and asks the program nothing.
 """
 from collections.abc import Callable, Iterator
-from typing import NamedTuple, Union
+from typing import NamedTuple
 
 from model.carriers import IDLE_DATA, NO_START
-from model.octets import MOST_CODEBLOCKS, MOST_FRAME, START, TAIL, Refused, SetVr, crc, frame_in, information, randomized, read_tc_frame, read_tm_frame
-from model.packets import (BARE, DELETE, FAILURES, IDLE_APID, INSERT, LAST_COUNT, MOST_DATA, MOST_INSERTED, MOST_SUMMARIZED, SCHEDULE, SHIFT, SHIFT_ALL, STEPS, SUCCESSES,
-                           SUMMARY, Heard, Idle, read_report, read_telecommand, whole_length)
-from model.profiles import LAST_MOMENT, Profile
+from model.decoded_packets import packet_lines, telecommand_lines
+from model.decoded_rows import (Item, Part, Row, at_least, at_most, error_control, exactly, field, flag, given, heading, lines_of, octets_word, sequence_word, value_of,
+                                word_of)
+from model.octets import MOST_CODEBLOCKS, MOST_FRAME, START, TAIL, frame_in, information, randomized, read_tc_frame, read_tm_frame
+from model.packets import whole_length
+from model.profiles import Profile
 
 LAYERS = ("frame", "cltu", "packet", "tm")
 MOST_OCTETS, MOST_CHARACTERS = 65_542, 262_168
-SCHEDULE_SUBTYPES = (*BARE, INSERT, DELETE, SHIFT, SHIFT_ALL)
-SEQUENCES = ("continuation", "first", "last", "unsegmented")
-OUTCOME_WORDS = ("completes", "completes in steps", "refuses", "start fails", "halts", "fails")
-COMPLETES, IN_STEPS, HALTS = 0, 1, 4
-
-
-class Part(NamedTuple):
-    """The octets of a layer, and the place of each in the whole text, from 1."""
-    octets: bytes
-    place: Callable[[int], int]
-
-    def from_octet(self, begin: int, length: int) -> "Part":
-        """Returns the octets of a layer inside."""
-        return Part(self.octets[begin:begin + length], lambda index: self.place(begin + index))
-
-
-class Row(NamedTuple):
-    """A line about a field or a count. Where the reader refuses the layer with `word`, it is the fault unless it fits: `must` says what would fit."""
-    place: int
-    name: str
-    value: str
-    word: str = ""
-    must: str = ""
-
-
-Item = Union[Row, list[str]]  # a line of the layer, or the lines of a layer inside
-
-
-def lines_of(items: Iterator[Item], word: str) -> list[str]:
-    """Returns the lines of a layer that is taken, if `word` is empty, or refused with a word: then its first fault of this word is the last line."""
-    found: list[str] = []
-    for it in items:
-        if isinstance(it, list):
-            found += it
-            continue
-        is_fault = it.must != "" and it.word == word
-        found.append(f"octet {it.place}, {it.name}: {it.value}" + (f", but {it.must}" if is_fault else ""))
-        if is_fault:
-            return found
-    return found
-
-
-def word_of(read: Callable[[], object]) -> str:
-    """Returns the word with which a reader refuses; none if it does not."""
-    try:
-        read()
-    except Refused as refused:
-        return str(refused)
-    return ""
-
-
-# ---- fields
-
-def octets_word(number: int) -> str:
-    """Spells a count of octets."""
-    return "1 octet" if number == 1 else f"{number} octets"
-
-
-def given(number: int) -> str:
-    """Spells how many octets there are, beside a length field that says otherwise."""
-    return f"{octets_word(number)} {'is' if number == 1 else 'are'} given"
-
-
-def flag(value: int) -> str:
-    """Shows a flag."""
-    return ("no", "yes")[value]
-
-
-def type_word(value: int) -> str:
-    """Shows the type of a packet."""
-    return ("telemetry", "telecommand")[value]
-
-
-def sequence_word(value: int) -> str:
-    """Shows sequence flags."""
-    return SEQUENCES[value]
-
-
-def outcome_word(value: int) -> str:
-    """Shows the kind of an outcome."""
-    return OUTCOME_WORDS[value] if value < len(OUTCOME_WORDS) else str(value)
-
-
-def value_of(octets: bytes, bit: int, bits: int) -> int:
-    """Returns the number in some bits, of which the first has this index."""
-    end = bit + bits
-    last = -(-end // 8)
-    return int.from_bytes(octets[:last], "big") >> (8 * last - end) & (1 << bits) - 1
-
-
-def filled(bit: int, bits: int) -> int:
-    """Returns the index of the first octet that a field fills, or of the one in which it begins if it fills none."""
-    first = -(-bit // 8)
-    return first if bit + bits >= 8 * first + 8 else bit // 8
-
-
-def field(part: Part, name: str, bit: int, bits: int, shown: Callable[[int], str] = str, word: str = "",
-          must: Callable[[int], str] = lambda value: "") -> Row:
-    """Returns the line of a field. `must` says of its value what would fit, or nothing if it fits."""
-    value = value_of(part.octets, bit, bits)
-    return Row(part.place(filled(bit, bits)), name, shown(value), word, must(value))
-
-
-def exactly(wanted: int, shown: Callable[[int], str] = str) -> Callable[[int], str]:
-    """Returns the test of a field that has to have one value."""
-    return lambda value: "" if value == wanted else f"must be {shown(wanted)}"
-
-
-def between(least: int, most: int, shown: Callable[[int], str] = str) -> Callable[[int], str]:
-    """Returns the test of a field that has to lie in a range."""
-    return lambda value: "" if least <= value <= most else f"must be {shown(least)} to {shown(most)}"
-
-
-def heading(part: Part, index: int, name: str, number: int, word: str = "", must: str = "") -> Row:
-    """Returns the line of a count of octets from an index on."""
-    return Row(part.place(index), name, octets_word(number), word, must)
-
-
-def at_least(number: int, least: int) -> str:
-    """Says what fits a count that has to be this at least."""
-    return "" if number >= least else f"must be at least {octets_word(least)}"
-
-
-def at_most(number: int, most: int) -> str:
-    """Says what fits a count that has to be this at most."""
-    return "" if number <= most else f"must be at most {octets_word(most)}"
-
-
-def error_control(part: Part, name: str) -> Row:
-    """Returns the line of the CRC-16 at the end of a layer."""
-    number = len(part.octets)
-    wanted = crc(part.octets[:-2])
-    return field(part, name, 8 * (number - 2), 16, lambda value: f"0x{value:04x}", "Check", exactly(wanted, lambda value: f"0x{value:04x}"))
 
 
 # ---- telecommand transfer frames
@@ -240,217 +109,6 @@ def no_frame(part: Part) -> Iterator[Item]:
     yield field(part, "frame length", 22, 10, word="Length", must=lambda value: given(number))
 
 
-# ---- packets
-
-def packet_lines(profile: Profile, part: Part) -> list[str]:
-    """Returns the lines of a packet, of the kind that its type bit says."""
-    if part.octets and part.octets[0] & 0x10:
-        return telecommand_lines(profile, part)
-    return report_lines(profile, part)
-
-
-def primary_header(part: Part, kind: int, words: dict[str, str], most_apid: int) -> Iterator[Item]:
-    """Returns the lines of the primary header of a packet of a kind. `words` has a reader's word for each field of which it asks something."""
-    number = len(part.octets)
-    yield field(part, "packet version", 0, 3, word=words["version"], must=exactly(0))
-    yield field(part, "packet type", 3, 1, type_word, words["header"], exactly(kind, type_word))
-    yield field(part, "secondary header flag", 4, 1, flag, words["header"], exactly(1, flag))
-    yield field(part, "APID", 5, 11, word=words["header"], must=between(0, most_apid))
-    yield field(part, "sequence flags", 16, 2, sequence_word, words["header"], exactly(3, sequence_word))
-    yield field(part, "sequence count", 18, 14)
-    if "length" in words:
-        yield field(part, "packet data length", 32, 16, word=words["length"], must=lambda value: "" if value + 7 == number else given(number))
-
-
-def telecommand_lines(profile: Profile, part: Part) -> list[str]:
-    """Returns the lines of a telecommand packet."""
-    word = word_of(lambda: read_telecommand(profile, part.octets))
-    return lines_of(telecommand_items(profile, part, word), word)
-
-
-def subtype_must(service: int) -> Callable[[int], str]:
-    """Returns the test of a message subtype."""
-    if service != SCHEDULE:
-        return between(1, 255)
-    return lambda value: "" if value in SCHEDULE_SUBTYPES else "must be 1, 2, 3, 4, 5, 7, 15 or 17"
-
-
-def telecommand_items(profile: Profile, part: Part, word: str) -> Iterator[Item]:
-    """Returns the lines of a telecommand packet that is taken, or refused with a word."""
-    number = len(part.octets)
-    yield heading(part, 0, "packet", number, "Length", at_least(number, 13))
-    yield from primary_header(part, 1, {"version": "Header", "header": "Header", "length": "Length"}, IDLE_APID - 1)
-    yield field(part, "PUS version", 48, 4, word="Header", must=exactly(2))
-    for bit, name in enumerate(("completion", "progress", "start", "acceptance"), 52):
-        yield field(part, f"{name} acknowledgement", bit, 1, flag)
-    service = value_of(part.octets, 56, 8)
-    yield field(part, "service type", 56, 8, word="Subtype", must=between(1, 255))
-    yield field(part, "message subtype", 64, 8, word="Subtype", must=subtype_must(service))
-    yield field(part, "source id", 72, 16, word="Header", must=exactly(profile.source))
-    if word in ("", "Data"):
-        subtype = value_of(part.octets, 64, 8)
-        data = part.from_octet(11, number - 13)
-        yield from plain_items(profile, data) if service != SCHEDULE else schedule_items(profile, data, subtype)
-    yield error_control(part, "packet error control")
-
-
-def plain_items(profile: Profile, data: Part) -> Iterator[Item]:
-    """Returns the lines of the application data of a plain request."""
-    number = len(data.octets)
-    length = number - 3 if profile.rehearsal and number >= 3 else number
-    yield heading(data, 0, "application data", length, "Data", at_most(length, MOST_DATA))
-    if not profile.rehearsal:
-        return
-    if number < 3:
-        yield heading(data, 0, "outcome", number, "Data", at_least(number, 3))
-        return
-    kind, bit = data.octets[length], 8 * length
-    yield field(data, "outcome", bit, 8, outcome_word, "Data", between(COMPLETES, len(OUTCOME_WORDS) - 1, outcome_word))
-    yield field(data, "steps", bit + 8, 8, word="Data", must=between(1, 9) if kind in (IN_STEPS, HALTS) else exactly(0))
-    yield field(data, "failure code", bit + 16, 8, word="Data", must=exactly(0) if kind in (COMPLETES, IN_STEPS) else between(16, 255))
-
-
-def hex4(value: int) -> str:
-    """Shows a number of 16 bits as hexadecimal digits."""
-    return f"0x{value:04x}"
-
-
-def seconds_items(profile: Profile, data: Part, index: int, name: str, is_offset: bool = False, word: str = "") -> Iterator[Item]:
-    """Returns the lines of a time or an offset, with its fraction if the profile has one."""
-    def shown(value: int) -> int:
-        return value - (value >> 31 << 32) if is_offset else value + profile.time_epoch
-
-    def must(value: int) -> str:
-        return between(0, LAST_MOMENT)(shown(value)) if word else ""
-
-    yield field(data, name, 8 * index, 32, lambda value: str(shown(value)), word, must)
-    if profile.time_fine:
-        yield field(data, "fraction", 8 * index + 32, 16, hex4)
-
-
-def name_items(profile: Profile, data: Part, index: int, is_ours: bool) -> Iterator[Item]:
-    """Returns the lines of the name of an activity."""
-    bit = 8 * index
-    yield field(data, "source id", bit, 16, word="Data", must=exactly(profile.source) if is_ours else lambda value: "")
-    yield field(data, "APID", bit + 16, 16, word="Data", must=between(0, IDLE_APID - 1))
-    yield field(data, "sequence count", bit + 32, 16, word="Data", must=between(0, LAST_COUNT))
-
-
-def schedule_items(profile: Profile, data: Part, subtype: int) -> Iterator[Item]:
-    """Returns the lines of the application data of a command of the schedule."""
-    number, fine = len(data.octets), profile.time_fine
-    if subtype == INSERT:
-        yield from insert_items(profile, data)
-        return
-    length = {DELETE: 7, SHIFT: 11 + fine, SHIFT_ALL: 4 + fine}.get(subtype, 0)
-    if number or length:
-        yield heading(data, 0, "application data", number, "Data", "" if number == length else f"must be {octets_word(length)}")
-    if subtype in (SHIFT, SHIFT_ALL):
-        yield from seconds_items(profile, data, 0, "time offset", is_offset=True)
-    if subtype in (DELETE, SHIFT):
-        begin = length - 7
-        yield field(data, "number of names", 8 * begin, 8, word="Data", must=exactly(1))
-        yield from name_items(profile, data, begin + 1, True)
-
-
-def no_field(data: Part, name: str) -> Row:
-    """Returns the fault of data that are wrong in a way that no field shows."""
-    return heading(data, 0, name, len(data.octets), "Data", "must be as the request has them")
-
-
-def insert_items(profile: Profile, data: Part) -> Iterator[Item]:
-    """Returns the lines of the activities of an insert, as far as they can be read."""
-    octets, head = data.octets, 4 + profile.time_fine
-    if octets:
-        yield field(data, "number of activities", 0, 8, word="Data", must=between(1, MOST_INSERTED))
-        at = 1
-        for _ in range(octets[0]):
-            if len(octets) < at + head:
-                break
-            yield from seconds_items(profile, data, at, "release time", word="Data")
-            length = whole_length(octets[at + head:]) or len(octets) + 1
-            activity = data.from_octet(at + head, length)
-            if len(octets) < at + head + length or word_of(lambda: read_telecommand(profile, activity.octets)) or activity.octets[7] == SCHEDULE:
-                break
-            yield telecommand_lines(profile, activity)
-            at += head + length
-        else:
-            if at == len(octets):
-                return
-    yield no_field(data, "application data")
-
-
-# ---- telemetry packets
-
-def report_lines(profile: Profile, part: Part) -> list[str]:
-    """Returns the lines of a telemetry packet."""
-    word = word_of(lambda: read_report(profile, part.octets))
-    return lines_of(report_items(profile, part, word), word)
-
-
-def report_items(profile: Profile, part: Part, word: str) -> Iterator[Item]:
-    """Returns the lines of a telemetry packet that is taken, or refused with a word."""
-    octets, number, head = part.octets, len(part.octets), 17 + profile.time_fine
-    least = head + 2 if number >= 7 and whole_length(octets) == number else 7
-    yield heading(part, 0, "packet", number, "Length", at_least(number, least))
-    yield from primary_header(part, 0, {"version": "Version", "header": "Header", "length": "Length"}, IDLE_APID)
-    read = read_report(profile, octets) if word == "" else None
-    if isinstance(read, Idle):
-        yield heading(part, 6, "idle data", number - 6)
-        return
-    yield field(part, "PUS version", 48, 4, word="Header", must=exactly(2))
-    yield field(part, "time reference status", 52, 4)
-    yield field(part, "service type", 56, 8)
-    yield field(part, "message subtype", 64, 8)
-    yield field(part, "message type counter", 72, 16)
-    yield field(part, "destination id", 88, 16)
-    yield from seconds_items(profile, part, 13, "time")
-    if word in ("", "Data"):
-        data = part.from_octet(head, number - head - 2)
-        if word == "" and not isinstance(read, Heard):
-            yield heading(data, 0, "source data", len(data.octets))
-        else:
-            yield from verification_items(data, octets[8]) if octets[7] == 1 else summary_items(profile, data)
-    yield error_control(part, "packet error control")
-
-
-def verification_items(data: Part, subtype: int) -> Iterator[Item]:
-    """Returns the lines of the source data of a report of service 1."""
-    number = len(data.octets)
-    least = 4 + (subtype in STEPS) + (subtype in FAILURES)
-    yield heading(data, 0, "source data", number, "Data", at_least(number, least) or (at_most(number, least) if subtype in SUCCESSES else ""))
-    yield from primary_header(data, 1, {"version": "Data", "header": "Data"}, IDLE_APID - 1)
-    if subtype in STEPS:
-        yield field(data, "step", 32, 8)
-    if subtype in FAILURES:
-        yield field(data, "failure code", 32 + 8 * (subtype in STEPS), 8)
-
-
-def status_word(value: int) -> str:
-    """Shows whether the schedule is enabled."""
-    return ("disabled", "enabled")[value] if value < 2 else str(value)
-
-
-def summary_items(profile: Profile, data: Part) -> Iterator[Item]:
-    """Returns the lines of the source data of a summary, as far as they can be read."""
-    octets, size = data.octets, 10 + profile.time_fine
-    if octets:
-        yield field(data, "number of activities", 0, 8, word="Data", must=between(0, MOST_SUMMARIZED))
-        number = octets[0]
-        for at in range(1, 1 + number * size, size):
-            if len(octets) < at + size:
-                break
-            yield from seconds_items(profile, data, at, "release time", word="Data")
-            yield from name_items(profile, data, at + size - 6, False)
-        else:
-            left = len(octets) - 1 - number * size
-            if left == 1:
-                yield field(data, "schedule status", 8 * (len(octets) - 1), 8, status_word, "Data", between(0, 1, status_word))
-            if left <= 1:
-                return
-    yield no_field(data, "source data")
-
-
 # ---- telemetry transfer frames
 
 def tm_lines(profile: Profile, part: Part) -> list[str]:
@@ -502,17 +160,17 @@ def field_items(profile: Profile, part: Part, data: Part) -> Iterator[Item]:
         at += whole
 
 
-CONTROL_WORD: tuple[tuple[str, int, bool], ...] = (
-    ("control word type", 1, False), ("control word version", 2, False), ("status field", 3, False), ("COP in effect", 2, False), ("virtual channel", 6, False),
-    ("spare", 2, False), ("no RF available", 1, True), ("no bit lock", 1, True), ("lockout", 1, True), ("wait", 1, True), ("retransmit", 1, True),
-    ("FARM-B counter", 2, False), ("spare", 1, False), ("report value", 8, False))
+CONTROL_WORD: tuple[tuple[str, int, Callable[[int], str]], ...] = (
+    ("control word type", 1, str), ("control word version", 2, str), ("status field", 3, str), ("COP in effect", 2, str), ("virtual channel", 6, str), ("spare", 2, str),
+    ("no RF available", 1, flag), ("no bit lock", 1, flag), ("lockout", 1, flag), ("wait", 1, flag), ("retransmit", 1, flag), ("FARM-B counter", 2, str), ("spare", 1, str),
+    ("report value", 8, str))
 
 
 def control_word_items(part: Part) -> Iterator[Item]:
     """Returns the lines of the control word of a frame."""
     bit = 0
-    for name, bits, is_flag in CONTROL_WORD:
-        yield field(part, name, bit, bits, flag if is_flag else str)
+    for name, bits, shown in CONTROL_WORD:
+        yield field(part, name, bit, bits, shown)
         bit += bits
 
 

@@ -21,8 +21,8 @@ def cases() -> list[Case]:
     found = []
     for part in re.split(r"^(?=\[\d+\] )", CASES.read_text(encoding="ascii"), flags=re.M)[1:]:
         title, profile, layer, text, *lines = part.rstrip("\n").split("\n")
-        keys = [it.partition(":")[2].removeprefix(" ") for it in (profile, layer, text)]
-        found.append(Case(title, *keys, [it.removeprefix("  ") for it in lines]))
+        settings, name, octets = (it.partition(":")[2].removeprefix(" ") for it in (profile, layer, text))
+        found.append(Case(title, settings, name, octets, [it.removeprefix("  ") for it in lines]))
     return found
 
 

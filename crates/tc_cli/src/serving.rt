@@ -1,4 +1,7 @@
 //! A desk that is kept in a file, served over HTTP (RFC 9112) on this machine alone.
+ghost use Rattle.std.specs.Prelude.{◌≡◌};
+ghost use Rattle.tc_cli.specs.Closing.{after_closing};
+
 use crate::server::{End, Server};
 use mio::net::TcpListener;
 use sqlite::Connection;
@@ -39,17 +42,29 @@ impl From<Unusable> for ServiceFault {
     }
 }
 
+/// Returns what a service that ended so comes to once its database was closed, or why that failed. A desk that had stopped has stopped; any other
+/// that was not closed cannot be used, whatever it came to before.
+fn after_closing<T: Drop>(
+    failed: Option<Unusable>,
+    ended: Result<T, ServiceFault>,
+) -> Result<T, ServiceFault>
+    ensures { result ≡ after_closing failed ended }
+{
+    match (failed, ended) {
+        (Some(why), Err(ServiceFault::Stopped(_))) => Err(ServiceFault::Stopped(why.because)),
+        (Some(why), _) => Err(ServiceFault::Desk(why)),
+        (None, ended) => ended,
+    }
+}
+
 /// Closes the database of a desk that is served no longer, so that the file alone holds everything.
 pub(crate) fn closed<T: Drop>(
     store: Connection<FileStore<FileFrom<Wary>>>,
     ended: Result<T, ServiceFault>,
 ) -> Result<T, ServiceFault> {
-    match (store.close(), ended) {
-        (Err(error), Err(ServiceFault::Stopped(_))) => {
-            Err(ServiceFault::Stopped(of_tables(error).because))
-        }
-        (Err(error), _) => Err(ServiceFault::from(of_tables(error))),
-        (Ok(_), ended) => ended,
+    match store.close() {
+        Ok(_) => after_closing(None, ended),
+        Err(error) => after_closing(Some(of_tables(error)), ended),
     }
 }
 

@@ -7,12 +7,6 @@ use Rattle.tc_posts.specs.Completing.{Asks, Completes, GoesOnBy, IsCut, IsWhole}
 use Rattle.tc_posts.specs.Steps.{Line, Step, answered, is_refusal, refuses, sent}
 use Rattle.tc_posts.specs.Told.{Answer, TellsMove}
 
--- nothing that is asked for to complete a reply is shown
-pub shows_nothing : (port : ℕ) (answer last : Answer) (steps : List Step) → Completes port answer steps last → refuses steps ≡ false
-shows_nothing port answer last steps (IsWhole answer none) = refl
-shows_nothing port answer last steps (IsCut answer none) = refl
-shows_nothing port answer last steps (Asks answer next last after response rest some at goes completes) = shows_nothing port next last rest completes
-
 or_nothing : (b : Bool) → b ≡ (b || false)
 or_nothing true = refl
 or_nothing false = refl
@@ -20,13 +14,13 @@ or_nothing false = refl
 -- what is refused of a line that is sent is what is shown at its end
 pub refuses_at_end : (port : ℕ) (answer last : Answer) (steps : List Step) (line : Line) → Completes port answer steps last
     → is_refusal last ≡ refuses (steps ++ answered line last ∷ [])
-refuses_at_end port answer last steps line (IsWhole answer none) = or_nothing (is_refusal last)
-refuses_at_end port answer last steps line (IsCut answer none) = or_nothing (is_refusal last)
-refuses_at_end port answer last steps line (Asks answer next last after response rest some at goes completes) = refuses_at_end port next last rest line completes
+refuses_at_end port answer last steps line (IsWhole same none) = or_nothing (is_refusal same)
+refuses_at_end port answer last steps line (IsCut same none) = or_nothing (is_refusal same)
+refuses_at_end port answer last steps line (Asks here next there after response rest some at goes completes) = refuses_at_end port next there rest line completes
 
 -- ---- each question brings what is left nearer to its end
 
-last_work : Option ℕ → ℕ
+abbrev pub last_work : Option ℕ → ℕ
 last_work None = 0
 last_work (Some number) = 1
 
@@ -39,8 +33,8 @@ no_last None tells = refl
 no_last (Some number) (fits, others, is) = let gone : (let words : List (List ℕ) = [] ∷ [] in words) ≡ codes "move" ∷ decimal number ∷ others = is in absurd cc
 
 some_last : (last : Option ℕ) → last_work last ≤ 1
-some_last None = omega arith
-some_last (Some number) = omega arith
+some_last None = omega (arith, (let is : last_work None ≡ 0 = refl in is))
+some_last (Some number) = omega (arith, (let is : last_work (Some number) ≡ 1 = refl in is))
 
 pub goes_less : (lines : List Data) (answer next : Answer) (after : ℕ) → 0 < answer.more → answer.last ≡ Some after → GoesOnBy lines answer next
     → work_left next < work_left answer

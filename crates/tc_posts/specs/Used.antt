@@ -25,6 +25,10 @@ AreAsked port (line ∷ lines) steps used = (first rest : List Step) × (here th
 
 -- ---- what is said of them
 
+-- a number is used
+abbrev pub one_note : ℕ → List ℕ
+one_note number = codes "number " ++ decimal number ++ codes " is used: its reply is that of the first run"
+
 -- the numbers from one to another are used
 abbrev pub range_note : ℕ → ℕ → List ℕ
 range_note first last = codes "numbers " ++ decimal first ++ codes " to " ++ decimal last ++ codes " are used: their replies are those of the first run"
@@ -32,7 +36,7 @@ range_note first last = codes "numbers " ++ decimal first ++ codes " to " ++ dec
 -- so many numbers are used, of which this is the first and that the last: one, or all between them, or fewer
 abbrev pub note_of : ℕ → ℕ → ℕ → List ℕ
 note_of first last count =
-    if count == 1 then codes "number " ++ decimal first ++ codes " is used: its reply is that of the first run" else
+    if count == 1 then one_note first else
     if last - first == count - 1 then range_note first last else decimal count ++ codes " of the " ++ range_note first last
 
 -- these are used; nothing is said of none

@@ -1,8 +1,8 @@
 //! Replies of which lines are left out, and the question that brings them where they are moves.
-ghost use Rattle.std.specs.Prelude.{◌≡◌, ℕ, List, [], ◌∷◌, IfOk, map};
+ghost use Rattle.std.specs.Prelude.{◌≡◌, ℕ, List, [], ◌∷◌, IfOk, map, take};
 ghost use Rattle.std.specs.String.{string_bytes};
 ghost use Rattle.serde_json.specs.View.{view};
-ghost use Rattle.tc_posts.specs.Completing.{Completes, GoesOn, GoesOnBy, left_out_note, left_out_words, wanted_lines};
+ghost use Rattle.tc_posts.specs.Completing.{Completes, GoesOn, GoesOnBy, left_out_note, left_out_words, move_lines};
 ghost use Rattle.tc_posts.specs.Posting.{moves_bytes};
 ghost use Rattle.tc_posts.specs.Steps.{Step, sent};
 ghost use Rattle.tc_posts.specs.Told.{answer_of};
@@ -13,22 +13,33 @@ use crate::told::{Told, Untellable, body_of, last_move, lines_in, lines_text};
 use serde_json::Value;
 use std::alloc::{AllocError, Global};
 
-/// The lines that tell moves, no more than are wanted. The first line counts them.
-fn wanted_lines(lines: &[Value], most: u64) -> &[Value]
-    ensures { map view result.now ≡ wanted_lines most (map view lines.now) }
+/// Returns the lines that tell moves: the first line counts them.
+fn move_lines(lines: &[Value]) -> &[Value]
+    ensures { map view result.now ≡ move_lines (map view lines.now) }
 {
     match lines.split_first() {
-        Some((_, moves)) => {
-            let most = usize::try_from(most).unwrap_or(usize::MAX);
-            &moves[..most.min(moves.len())]
-        }
+        Some((_, moves)) => moves,
         None => lines,
     }
 }
 
+/// Returns the first of these, no more than so many.
+fn first_of<T>(items: &[T], most: usize) -> &[T]
+    ensures { result.now ≡ take most items.now }
+{
+    &items[..most.min(items.len())]
+}
+
+/// Returns the first of these lines, no more than so many.
+fn first_lines(lines: &[Value], most: u64) -> &[Value]
+    ensures { map view result.now ≡ take most (map view lines.now) }
+{
+    first_of(lines, most as usize)
+}
+
 /// Adds these lines to a reply of which at least so many are left out.
 fn add_lines(alloc: Global, told: Told, lines: &[Value]) -> Result<Told, AllocError>
-    ensures { IfOk result (λ next. GoesOnBy (map view lines.now) (answer_of told.entry) (answer_of next)) }
+    ensures { IfOk result (λ next. GoesOnBy (map view lines.now) (answer_of told) (answer_of next)) }
 {
     let last = last_move(lines);
     let added = lines_text(alloc, lines)?;
@@ -44,12 +55,12 @@ fn add_lines(alloc: Global, told: Told, lines: &[Value]) -> Result<Told, AllocEr
 
 /// A reply, and the moves that this response tells, no more than are left out of it.
 fn with_moves(alloc: Global, told: Told, response: &[u8]) -> Result<Told, Untellable>
-    ensures { IfOk result (λ next. GoesOn response.now (answer_of told.entry) (answer_of next)) }
+    ensures { IfOk result (λ next. GoesOn response.now (answer_of told) (answer_of next)) }
 {
     let body = body_of(response).ok_or(Untellable::NoResponse)?;
     let value = Value::from_str(alloc, body)?;
     let lines = lines_in(&value).ok_or(Untellable::NoResponse)?;
-    let wanted = wanted_lines(lines, told.more);
+    let wanted = first_lines(move_lines(lines), told.more);
     Ok(add_lines(alloc, told, wanted)?)
 }
 
@@ -62,7 +73,7 @@ fn ask_on<C: Client>(
     told: Told,
 ) -> Result<Told, C::Fault>
     ensures { IfOk result (λ next. (response : List ℕ) × C.did client.old (sent (moves_bytes port after) response ∷ []) client.new
-        × GoesOn response (answer_of told.entry) (answer_of next)) }
+        × GoesOn response (answer_of told) (answer_of next)) }
 {
     let request = match moves_request(alloc, port, after) {
         Ok(request) => request,
@@ -83,7 +94,7 @@ pub(crate) fn complete<C: Client>(
     told: Told,
 ) -> Result<Told, C::Fault>
     ensures { IfOk result (λ last. (steps : List Step) × C.did client.old steps client.new
-        × Completes port (answer_of told.entry) steps (answer_of last)) }
+        × Completes port (answer_of told) steps (answer_of last)) }
 {
     let mut told = told;
     while told.more > 0 {

@@ -3,7 +3,7 @@ ghost use Rattle.std.specs.Prelude.{◌≡◌, ◌++◌, ℕ, List, IfOk, OnOk, 
 ghost use Rattle.std.specs.String.{string_bytes};
 ghost use Rattle.tc_posts.specs.Numbered.{shown};
 ghost use Rattle.tc_posts.specs.Steps.{Step};
-ghost use Rattle.tc_posts.specs.Used.{AreAsked, IsAsked, note_of, numbers_if, range_note, used_note};
+ghost use Rattle.tc_posts.specs.Used.{AreAsked, IsAsked, note_of, numbers_if, one_note, range_note, used_note};
 
 use crate::numbered::NumberedLine;
 use crate::posting::empty_request;
@@ -56,9 +56,9 @@ pub(crate) fn used_numbers<C: Client>(
     let mut used = Vec::new(alloc);
     for line in lines {
         let is_used = is_used(alloc, client, port, line)?;
-        if add_if(&mut used, line.number, is_used).is_err() {
+        let Ok(()) = add_if(&mut used, line.number, is_used) else {
             return Err(client.untellable(Untellable::Memory));
-        }
+        };
     }
     Ok(used)
 }
@@ -67,9 +67,18 @@ pub(crate) fn used_numbers<C: Client>(
 fn range_note(alloc: Global, first: u64, last: u64) -> Result<String, AllocError>
     ensures { IfOk result (λ note. string_bytes note ≡ range_note first last) }
 {
-    format!(in alloc;
-        "numbers {first} to {last} are used: their replies are those of the first run"
-    )
+    let mut note = format!(in alloc; "numbers {first} to {last}")?;
+    note.push_str(" are used: their replies are those of the first run")?;
+    Ok(note)
+}
+
+/// Says that a number is used.
+fn one_note(alloc: Global, number: u64) -> Result<String, AllocError>
+    ensures { IfOk result (λ note. string_bytes note ≡ one_note number) }
+{
+    let mut note = format!(in alloc; "number {number}")?;
+    note.push_str(" is used: its reply is that of the first run")?;
+    Ok(note)
 }
 
 /// Says that so many numbers are used, of which this is the first and that the last.
@@ -77,7 +86,7 @@ fn note_of(alloc: Global, first: u64, last: u64, count: u64) -> Result<String, A
     ensures { IfOk result (λ note. string_bytes note ≡ note_of first last count) }
 {
     if count == 1 {
-        return format!(in alloc; "number {first} is used: its reply is that of the first run");
+        return one_note(alloc, first);
     }
     let range = range_note(alloc, first, last)?;
     if last.saturating_sub(first) == count.saturating_sub(1) {

@@ -10,5 +10,5 @@ loop-line-preserved g c =
     let low : c.loop-line.line-index < length c.args.lines.now = search rules in (
       earlier.0 ++ last.0,
       g.met.C.Client.joined _ _ _ earlier.0 last.0 earlier.1 last.1,
-      rw _ (asked_next c.args.port c.args.lines.now c.loop-line.line-index _ earlier.0 last.0 _ _ low earlier.2 last.2),
+      rw c.in-Ok.ensures (asked_next c.args.port c.args.lines.now c.loop-line.line-index _ earlier.0 last.0 _ _ low earlier.2 last.2),
     )
