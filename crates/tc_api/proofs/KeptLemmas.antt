@@ -189,11 +189,11 @@ module _ {S : Type 0} (g : Ghosts S) (caller : Caller) (old new : Standing S) (a
 -- ---- what is served
 
 acts_keep : {S : Type 0} (g : Ghosts S) (old new : Standing S) (given : Result ActCall Refusal) (outcome : Outcome) → ServesActCall g old given outcome new → KeepsTables g old new
-acts_keep g old new (Ok call) outcome (asks_act, answers, ends, tells) = act_call_keeps g call.caller old new asks_act outcome.reply call.moment call.text answers
+acts_keep g old new (Ok call) outcome (asks_act, answers, ends, _) = act_call_keeps g call.caller old new asks_act outcome.reply call.moment call.text answers
 acts_keep g old new (Err refusal) outcome (_, same) = same_keeps g old new same
 
 loads_keep : {S : Type 0} (g : Ghosts S) (old new : Standing S) (kind : LoadKind) (given : Result LoadCall Refusal) (outcome : Outcome) → ServesLoadCall g old kind given outcome new → KeepsTables g old new
-loads_keep g old new kind (Ok call) outcome (asks_act, answers, ends, leaves) = load_call_keeps g call.caller old new asks_act outcome.reply kind call.moment call.name call.csv answers
+loads_keep g old new kind (Ok call) outcome (asks_act, answers, ends, _) = load_call_keeps g call.caller old new asks_act outcome.reply kind call.moment call.name call.csv answers
 loads_keep g old new kind (Err refusal) outcome (_, same) = same_keeps g old new same
 
 text_keeps : {S : Type 0} (g : Ghosts S) (old new : Standing S) (kind : LoadKind) (body : List ℕ) (outcome : Outcome) → ServesText g old kind body outcome new → KeepsTables g old new

@@ -1,8 +1,7 @@
 -- What is served.
-use Rattle.std.proofs.Common.{Bor, ◌≡◌, ◌∙◌, ◌⊎◌, inl, inr, ap, subst, refl, ℕ, Bool, false, List, [], ◌∷◌, Option, Some, None, Result, Ok, Err, String, Global}
+use Rattle.std.proofs.Common.{Bor, ◌≡◌, ◌∙◌, ◌⊎◌, inl, inr, ap, subst, refl, ℕ, Bool, false, List, [], ◌∷◌, Option, Some, None, Result, Ok, Err}
 use Rattle.std.specs.Prelude.{◌&&◌, IfSome}
 use Rattle.std.specs.Str.{IsUtf8}
-use Rattle.std.specs.String.{string_bytes}
 use Rattle.serde_json.specs.Data.{Data}
 use Rattle.serde_json.specs.Read.{read}
 use Rattle.sqlite_trees.specs.declared.store.Store.{Ghosts}
@@ -20,7 +19,6 @@ use Rattle.tc_front.specs.Front.{asked_of}
 use Rattle.tc_desk.specs.Replies.{Reply}
 use Rattle.tc_room.specs.Calls.{AnswersActCall, AnswersLoadCall}
 use Rattle.tc_room.specs.Joined.{Standing}
-use Rattle.tc_room.specs.Replies.{AreLines, ended}
 use Rattle.tc_room.specs.Truth.{LeavesLink, TellsTextTrue}
 use Rattle.tc_api.specs.declared.endings.Ending.{Ending}
 use Rattle.tc_api.specs.declared.endings.Ending.TheVariants as ending

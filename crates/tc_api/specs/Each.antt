@@ -1,5 +1,5 @@
 -- The exchanges of a server, one after the other.
-use Rattle.std.specs.Prelude.{◌≡◌, ℕ, Unit, Option, Some, None, Result, List, [], ◌∷◌, ◌++◌, ⊤}
+use Rattle.std.specs.Prelude.{◌≡◌, ℕ, Option, Some, None, Result, List, [], ◌∷◌, ◌++◌, ⊤}
 use Rattle.sqlite_trees.specs.declared.store.Store.{Ghosts}
 use Rattle.tc_types.specs.declared.refusals.Refusal.{Refusal}
 use Rattle.tc_front.specs.Front.{Asked}

@@ -1,6 +1,7 @@
 //! The exchanges of a server, one after the other.
 ghost use Rattle.std.specs.Prelude.{◌∷◌, [], List, Option};
-ghost use Rattle.tc_api.specs.Each.{Dealt, Grows, ServesEach};
+ghost use Rattle.tc_front.specs.Front.{Asked};
+ghost use Rattle.tc_api.specs.Each.{Dealt, Deals, Grows, ServesEach};
 
 use crate::exchange::serve_one;
 use sqlite::Alter;
@@ -24,6 +25,22 @@ pub trait Traffic {
         ensures { Grows (dealt self.old) (dealt self.new) (record { text = text.now; result = served; response = response.items } ∷ []) };
 }
 
+/// One exchange over the text of a request: why its response is not whole, if it is not, and all that was written of it.
+fn deal<S: Alter + Drop>(
+    alloc: Global,
+    door: &Door,
+    since: Moment,
+    text: &[u8],
+    room: &mut Room<S>,
+) -> (Result<(), Refusal>, Vec<u8>)
+    ensures { (read : Option Asked) × Deals door.now since S.Store room.old (record { text = text.now; result = result.0; response = result.1.items }) read room.new }
+{
+    let mut reader = Counted::new(text);
+    let mut writer = Counted::new(Vec::new(alloc));
+    let served = serve_one(alloc, door, since, &mut reader, &mut writer, room);
+    (served, writer.into_inner())
+}
+
 /// Serves the requests that come, one after the other, with a desk that was opened at this moment, until no more come.
 pub fn serve_each<T: Traffic, S: Alter + Drop>(
     alloc: Global,
@@ -41,9 +58,8 @@ pub fn serve_each<T: Traffic, S: Alter + Drop>(
         let Some(text) = traffic.next() else {
             return;
         };
-        let mut reader = Counted::new(text.as_slice());
-        let mut writer = Counted::new(Vec::new(alloc));
-        let served = serve_one(alloc, door, since, &mut reader, &mut writer, room);
-        traffic.answer(&text, served, writer.into_inner(), room.stopped());
+        let text = text.as_slice();
+        let (served, response) = deal(alloc, door, since, text, room);
+        traffic.answer(text, served, response, room.stopped());
     }
 }
