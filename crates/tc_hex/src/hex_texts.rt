@@ -1,5 +1,5 @@
 //! Texts of hexadecimal digits.
-ghost use Rattle.std.specs.Prelude.{◌≡◌, ◌⊎◌, ◌∷◌, [], IfErr, IfOk, Err, MatchOption, Ok};
+ghost use Rattle.std.specs.Prelude.{◌≡◌, ◌⊎◌, ◌∷◌, [], ◌≤◌, length, IfErr, IfOk, Err, MatchOption, Ok};
 ghost use Rattle.hex.specs.Hex.{decode_sized};
 ghost use Rattle.hex.specs.declared.error.FromHexError.{FromHexError};
 ghost use Rattle.tc_hex.specs.HexTexts.{spelled_from, spelled_octets};
@@ -47,7 +47,9 @@ fn octet_of(high: u8, low: u8) -> Option<[u8; 1]>
 
 /// Returns the octets that a text spells: pairs of hexadecimal digits of either case, with spaces between pairs, in front of the first or after the
 /// last. Fails at the first character at which neither a space nor a pair begins.
+#[tactic(auto, using(crate::proofs::HexLemmas::after_space))]
 fn spelled_octets<A: Allocator + Copy + Drop>(alloc: A, text: &[u8]) -> Result<Vec<u8, A>, HexFault>
+    requires { length text.now ≤ 262168 }
     ensures octets { IfOk result (λ octets. spelled_from 1 text.now ≡ Ok octets.items) }
     ensures fault { IfErr result (λ fault. (fault ≡ HexFault.Memory) ⊎ (spelled_from 1 text.now ≡ Err fault)) }
 {

@@ -84,7 +84,7 @@ places_bytes port = (codes "GET /places HTTP/1.1" ++ line_end) ++ host_line port
 abbrev pub moves_bytes : ℕ → ℕ → List ℕ
 moves_bytes port after = (codes "GET /moves/" ++ decimal after ++ codes " HTTP/1.1" ++ line_end) ++ host_line port ++ (line_end ++ line_end)
 
--- the person of a line posts an act of no bytes, at no moment
+-- the person of a line posts an act of no bytes, at moment 0
 abbrev pub AsksNothing : List ℕ → Posting → Type 0
 AsksNothing line asked =
-    (post : Posting) × Posts line post × (string_bytes asked.act ≡ []) × (string_bytes asked.by ≡ string_bytes post.by) × (asked.moment ≡ Nothing)
+    (post : Posting) × Posts line post × (string_bytes asked.act ≡ []) × (string_bytes asked.by ≡ string_bytes post.by) × (asked.moment ≡ Number 0)

@@ -232,7 +232,7 @@ pub fn empty_request(
     let asked = Posting {
         act: String::new(alloc),
         by: post.by,
-        moment: PostedMoment::Nothing,
+        moment: PostedMoment::Number(0),
     };
     request_of(alloc, port, &asked, number)
 }

@@ -25,8 +25,8 @@ loop-told-preserved g c =
       here.0 ++ asks,
       g.met.C.Client.joined _ _ _ here.0 asks here.1 next.1,
       λ rest last completes.
-      subst (λ (steps : List Step). Completes c.args.port (answer_of c.args.told) steps last) (sym (append_assoc here.0 asks rest))
-      (here.2 (asks ++ rest) last (Asks answer (answer_of c.in_ok-told.told) last c.in-Some.after next.0 rest some c.in-Some.is next.2 completes)),
+          subst (λ (steps : List Step). Completes c.args.port (answer_of c.args.told) steps last) (sym (append_assoc here.0 asks rest))
+          (here.2 (asks ++ rest) last (Asks answer (answer_of c.in_ok-told.told) last c.in-Some.after next.0 rest some c.in-Some.is next.2 completes)),
     )
 
 pub returns : goal.returns
