@@ -1,7 +1,7 @@
 //! The exchanges of a server, one after the other.
-ghost use Rattle.std.specs.Prelude.{◌∷◌, [], List, Option};
+ghost use Rattle.std.specs.Prelude.{ℕ, ◌∷◌, [], List, Option, option_map};
 ghost use Rattle.tc_front.specs.Front.{Asked};
-ghost use Rattle.tc_api.specs.Each.{Dealt, Deals, Grows, ServesEach};
+ghost use Rattle.tc_api.specs.Each.{Dealt, Deals, Grows, ServesEach, came_in};
 
 use crate::exchange::serve_one;
 use sqlite::Alter;
@@ -10,19 +10,23 @@ use tc_front::Door;
 use tc_room::Room;
 use tc_types::{Counted, Moment, Refusal};
 
-/// What brings requests to a desk, and takes what they are answered.
+/// What brings requests to a desk, and is told what they are answered.
 pub trait Traffic {
-    /// What came of the requests that it brought, in order, where a contract can name that.
-    ghost dealt: { Self → Option (List Dealt) };
+    /// The texts of the requests that came, in order, where a contract can name them.
+    ghost came: { Self → Option (List (List ℕ)) };
+    /// What was told of them, in order, where a contract can name that.
+    ghost told: { Self → Option (List Dealt) };
 
     /// The next request that came whole; none once no more comes.
     fn next(&mut self) -> Option<Vec<u8>>
-        ensures { Grows (dealt self.old) (dealt self.new) [] };
+        ensures comes { Grows (came self.old) (came self.new) (came_in (option_map (λ text. text.items) result)) }
+        ensures told { Grows (told self.old) (told self.new) [] };
 
-    /// Takes what the request with this text, which came last, is answered: all that was written of its response, and why that is not whole, if it is not; and whether the
+    /// Is told what the request with this text, which came last, is answered: all that was written of its response, and why that is not whole, if it is not; and whether the
     /// desk has stopped.
     fn answer(&mut self, text: &[u8], served: Result<(), Refusal>, response: Vec<u8>, stopped: bool)
-        ensures { Grows (dealt self.old) (dealt self.new) (record { text = text.now; result = served; response = response.items } ∷ []) };
+        ensures comes { Grows (came self.old) (came self.new) [] }
+        ensures told { Grows (told self.old) (told self.new) (record { text = text.now; result = served; response = response.items; stopped = stopped } ∷ []) };
 }
 
 /// One exchange over the text of a request: why its response is not whole, if it is not, and all that was written of it.
@@ -33,7 +37,7 @@ fn deal<S: Alter + Drop>(
     text: &[u8],
     room: &mut Room<S>,
 ) -> (Result<(), Refusal>, Vec<u8>)
-    ensures { (read : Option Asked) × Deals door.now since S.Store room.old (record { text = text.now; result = result.0; response = result.1.items }) read room.new }
+    ensures { (read : Option Asked) × Deals door.now since S.Store room.old (record { text = text.now; result = result.0; response = result.1.items; stopped = room.new.stopped }) read room.new }
 {
     let mut reader = Counted::new(text);
     let mut writer = Counted::new(Vec::new(alloc));
@@ -50,7 +54,7 @@ pub fn serve_each<T: Traffic, S: Alter + Drop>(
     room: &mut Room<S>,
 )
     // each request makes one exchange, and README's promise is kept after all of them
-    ensures { ServesEach door.now since S.Store (T.dealt traffic.old) (T.dealt traffic.new) room.old room.new }
+    ensures { ServesEach door.now since S.Store (T.came traffic.old) (T.came traffic.new) (T.told traffic.old) (T.told traffic.new) room.old room.new }
 {
     // read for the proof alone: the promise is kept
     let _opened = room.opened();
