@@ -386,6 +386,7 @@ impl<'a> Server<'a> {
 
 impl Traffic for Server<'_> {
     ghost came = { λ _. None };
+
     ghost told = { λ _. None };
 
     /// The request that became whole first, once one is. None once it has ended and no connection is open, and if the port can no longer be waited for.

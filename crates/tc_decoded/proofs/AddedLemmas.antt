@@ -145,6 +145,20 @@ telecommand_told insert place word profile octets before after is judged added =
           };
     }
 
--- lines that are equal to others
-pub added_equal : (all before after : List Line) → after ≡ before ++ all → Added (λ (lines : List Line). lines ≡ all) before after
-added_equal all before after added = record { lines = all; after = added; holds = refl }
+pub fields_told : (place : Place) (word : Option Word) (profile : Profile) (octets : List ℕ) (before after : List Line)
+    → after ≡ before ++ told place word octets (headers profile octets ++ data_rows profile octets ++ closing_rows word octets)
+    → Added (FieldsTold false place word profile octets) before after
+fields_told place word profile octets before after added =
+    record {
+      lines = told place word octets (headers profile octets ++ data_rows profile octets ++ closing_rows word octets);
+      after = added;
+      holds = refl;
+    }
+
+-- ---- any packet
+
+pub packet_told : (request : Bool) (place : Place) (profile : Profile) (octets : List ℕ) (before after : List Line)
+    → reports.is_request octets ≡ request → Added (reports.PacketToldAs request place profile octets) before after
+    → Added (reports.PacketTold place profile octets) before after
+packet_told request place profile octets before after is added =
+    subst (λ (b : Bool). Added (reports.PacketToldAs b place profile octets) before after) (sym is) added

@@ -45,11 +45,11 @@ information_none at there profile information plain before after p t lacks added
 -- ---- a CLTU
 
 pub cltu_told : (profile : Profile) (octets : List ℕ) (end : ℕ) (information : List ℕ) (whole : Place) (rows : List Row) (at : ℕ)
-    (before middle after : List Line) → whole ≡ the_whole → rows ≡ cltu_rows octets end information → at ≡ start_of end information + 2
+    (before middle after : List Line) → whole ≡ the_whole → rows ≡ cltu_rows octets end (length information) → at ≡ start_of end (length information) + 2
     → middle ≡ before ++ told whole None octets rows → Added (InformationTold at profile information) middle after
     → Added (CltuTold profile octets end information) before after
 cltu_told profile octets end information whole rows at before middle after w r a first inner =
-    let first_lines : List Line = told the_whole None octets (cltu_rows octets end information) in
+    let first_lines : List Line = told the_whole None octets (cltu_rows octets end (length information)) in
     let first_is : told whole None octets rows ≡ first_lines =
     ap (λ (q : Place). told q None octets rows) w ∙ ap (told the_whole None octets) r in
     record {

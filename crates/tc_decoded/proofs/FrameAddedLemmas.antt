@@ -7,12 +7,16 @@ use Rattle.tc_octets.specs.declared.profiles.Profile.{Profile}
 use Rattle.tc_octets.specs.declared.tm_frames.TmFrame.{TmFrame}
 use Rattle.tc_packets.specs.Receivers.{Given, fresh, received}
 use Rattle.tc_decoded.specs.declared.lines.Line.{Line}
+use Rattle.tc_decoded.specs.declared.names.Name.TheVariants as names
 use Rattle.tc_decoded.specs.declared.places.Place.{Place}
+use Rattle.tc_decoded.specs.declared.rows.Fit.TheVariants as fit
 use Rattle.tc_decoded.specs.declared.rows.Row.{Row}
 use Rattle.tc_decoded.specs.declared.rows.Word.{Word}
+use Rattle.tc_decoded.specs.declared.rows.Word.TheVariants as words
 use Rattle.tc_decoded.specs.Added.{Added}
 use Rattle.tc_decoded.specs.Places.{later}
-use Rattle.tc_decoded.specs.Rows.{told}
+use Rattle.tc_decoded.specs.ReportLines.{PacketTold}
+use Rattle.tc_decoded.specs.Rows.{counted, told}
 use Rattle.tc_decoded.specs.TcFrameLines.{FieldsTold, Judged, TcFrameTold, carries, closing_rows, front_rows, packet_at, packet_in, packet_length, packet_rows}
 use Rattle.tc_decoded.specs.Telecommands.{TelecommandTold}
 use Rattle.tc_decoded.specs.TmFrameLines as tm
@@ -129,3 +133,37 @@ pub data_told : (reads : Bool) (place : Place) (profile : Profile) (parts : TmPa
     → Added (tm.DataTold (tm.has_packets profile parts) place profile parts) before after
 data_told reads place profile parts before after is added =
     subst (λ (b : Bool). Added (tm.DataTold b place profile parts) before after) (sym is) added
+
+-- a frame that carries a packet is one that is taken
+taken_is : (word : Option Word) (octets : List ℕ) → carries word octets ≡ true → word ≡ None
+taken_is None octets is = refl
+taken_is (Some word) octets is = absurd (cc)
+
+pub carrier_told : (place : Place) (word : Option Word) (profile : Profile) (octets : List ℕ) (before after : List Line)
+    → carries word octets ≡ true → Judged profile octets word → Added (FieldsTold true place None profile octets) before after
+    → Added (TcFrameTold place profile octets) before after
+carrier_told place word profile octets before after is judged added =
+    frame_told true place word profile octets before after is judged
+    (subst (λ (w : Option Word). Added (FieldsTold true place w profile octets) before after) (sym (taken_is word octets is)) added)
+
+-- ---- a packet, or none
+
+pub no_packet : (number : ℕ) (place : Place) (profile : Profile) (octets : List ℕ) (lines : List Line) → number ≡ 0
+    → Added (tm.OneTold (number == 0) place profile octets) lines lines
+no_packet zero place profile octets lines none = record { lines = []; after = sym (append-nil lines); holds = refl }
+no_packet (suc number) place profile octets lines none = absurd (omega (arith, none))
+
+pub one_packet : (number : ℕ) (place : Place) (profile : Profile) (octets : List ℕ) (before after : List Line) → (number ≡ 0 → ⊥)
+    → Added (PacketTold place profile octets) before after → Added (tm.OneTold (number == 0) place profile octets) before after
+one_packet zero place profile octets before after some added = absurd (some refl)
+one_packet (suc number) place profile octets before after some added = added
+
+pub field_told : (place : Place) (profile : Profile) (parts : TmParts) (before after : List Line)
+    → after ≡ before ++ told place None parts.content (counted names.DataField 0 (length parts.content) words.Length fit.Any ∷ [])
+    → Added (tm.DataTold false place profile parts) before after
+field_told place profile parts before after added =
+    record {
+      lines = told place None parts.content (counted names.DataField 0 (length parts.content) words.Length fit.Any ∷ []);
+      after = added;
+      holds = refl;
+    }

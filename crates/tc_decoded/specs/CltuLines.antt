@@ -25,9 +25,10 @@ mode_of profile = if profile.tc.correct then Correcting else Detecting
 
 -- ---- the table
 
--- Where the start sequence of a CLTU stands, from 0, that ended before an octet: before its codeblocks and the block that ended it.
-abbrev pub start_of : ℕ → List ℕ → ℕ
-start_of end information = end - 10 - length information / 7 * 8
+-- Where the start sequence stands, from 0, of a CLTU with so many octets of information that ended before an octet: before its codeblocks and the
+-- block that ended it.
+abbrev pub start_of : ℕ → ℕ → ℕ
+start_of end information = end - 10 - information / 7 * 8
 
 abbrev pub is_tail : List ℕ → ℕ → Bool
 is_tail octets at =
@@ -50,10 +51,10 @@ codeblocks_row at number = record {
 abbrev pub end_row : List ℕ → ℕ → Row
 end_row octets at = counted (end_name (is_tail octets at)) at 8 words.Length fit.Any
 
-abbrev pub cltu_rows : List ℕ → ℕ → List ℕ → List Row
+abbrev pub cltu_rows : List ℕ → ℕ → ℕ → List Row
 cltu_rows octets end information =
     plain names.StartSequence (start_of end information) 0 16 shown.Hexadecimal
-    ∷ codeblocks_row (start_of end information + 2) (length information / 7)
+    ∷ codeblocks_row (start_of end information + 2) (information / 7)
     ∷ end_row octets (end - 8)
     ∷ []
 
@@ -77,8 +78,8 @@ pub data InformationTold (at : ℕ) (profile : Profile) (information : List ℕ)
 -- what is told of a CLTU that ended before an octet
 pub record CltuTold (profile : Profile) (octets : List ℕ) (end : ℕ) (information : List ℕ) (lines : List Line) : Type 0 where
   pub inner : List Line
-  pub frame : InformationTold (start_of end information + 2) profile information inner
-  pub all : lines ≡ told the_whole None octets (cltu_rows octets end information) ++ inner
+  pub frame : InformationTold (start_of end (length information) + 2) profile information inner
+  pub all : lines ≡ told the_whole None octets (cltu_rows octets end (length information)) ++ inner
 
 abbrev pub EndedTold : Profile → List ℕ → ℕ → Option (List ℕ) → List Line → Type 0
 EndedTold profile octets end None lines = lines ≡ []

@@ -1,12 +1,12 @@
 -- The lines of a telemetry transfer frame (CCSDS 132.0-B, 4.1), with the packets and the control word in it.
-use Rattle.std.specs.Prelude.{◌≡◌, ℕ, ◌+◌, ◌-◌, ◌==◌, ◌%◌, ◌^◌, nat_le, nat_lt, ◌&&◌, not, if◌then◌else◌, min, Bool, true, false, List, [], ◌∷◌, ◌++◌}
+use Rattle.std.specs.Prelude.{◌≡◌, ℕ, ◌+◌, ◌-◌, ◌==◌, ◌/◌, ◌%◌, ◌^◌, nat_le, nat_lt, ◌&&◌, ◌||◌, not, if◌then◌else◌, min, Bool, true, false, List, [], ◌∷◌, ◌++◌}
 use Rattle.std.specs.Prelude.{length, take, drop, slice_index, Option, Some, None, Result, Ok, Err}
 use Rattle.tc_octets.specs.TmFrames.{TmParts, TmReads, tm_parts}
 use Rattle.tc_octets.specs.declared.profiles.Profile.{Profile}
 use Rattle.tc_octets.specs.declared.tm_frames.TmFrame.{TmFrame}
 use Rattle.tc_octets.specs.declared.tm_frames.TmFault.{TmFault}
 use Rattle.tc_octets.specs.declared.tm_frames.TmFault.TheVariants as faults
-use Rattle.tc_packets.specs.Receivers.{Given, fresh, is_skipped, packet, received}
+use Rattle.tc_packets.specs.Receivers.{Given, fresh, packet, received}
 use Rattle.tc_decoded.specs.declared.lines.Line.{Line}
 use Rattle.tc_decoded.specs.declared.names.Name.TheVariants as names
 use Rattle.tc_decoded.specs.declared.places.Place.{Place}
@@ -74,10 +74,15 @@ tm_word faults.Spacecraft = words.Spacecraft
 abbrev pub pointer_of : ℕ → ℕ
 pointer_of status = status % 2 ^ 11
 
+-- The receiver of packets skips a frame with another secondary header flag, synchronization flag, packet order flag or segment length identifier, and
+-- one whose pointer lies past its data field of so many octets.
+abbrev pub skips : ℕ → ℕ → Bool
+skips status size = not (status / 2 ^ 11 == 3) || (nat_le size (pointer_of status) && nat_lt (pointer_of status) 2046)
+
 -- whether packets are read from a frame: one of our channel that the receiver does not skip, with other data than idle ones
 abbrev pub has_packets : Profile → TmParts → Bool
 has_packets profile parts =
-    (parts.vcid == profile.tm.vcid) && not (is_skipped parts.status (length parts.content)) && not (pointer_of parts.status == 2046)
+    (parts.vcid == profile.tm.vcid) && not (skips parts.status (length parts.content)) && not (pointer_of parts.status == 2046)
 
 -- how many octets continue a packet of an earlier frame
 abbrev pub continued_length : ℕ → List ℕ → ℕ

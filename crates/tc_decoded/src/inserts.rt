@@ -3,7 +3,7 @@ ghost use Rattle.std.specs.Prelude.{◌≡◌, ◌+◌, ◌*◌, ◌++◌, ◌�
 ghost use Rattle.tc_decoded.specs.Added.{Added};
 ghost use Rattle.tc_decoded.specs.Rows.{told};
 ghost use Rattle.tc_decoded.specs.Telecommands.{ActivitiesTold, ActivityLines, FieldsTold, TelecommandTold, activity_length, activity_packet_lines};
-ghost use Rattle.tc_decoded.specs.Telecommands.{closing_rows, cut_row, data_rows, headers, is_insert, may_insert};
+ghost use Rattle.tc_decoded.specs.Telecommands.{closing_rows, cut_row, data_rows, headers, is_cut, is_insert, may_insert};
 ghost use Rattle.tc_decoded.specs.Tables.{time_rows};
 
 use crate::lines::Line;
@@ -45,6 +45,13 @@ fn activity_length(profile: &Profile, octets: &[u8]) -> usize
 {
     let time = time_octets(profile);
     time + usize::from(pair_at(octets_from(octets, time), 4)) + 7
+}
+
+/// Whether octets are less than an activity.
+fn is_cut(profile: &Profile, octets: &[u8]) -> bool
+    ensures { result ≡ is_cut profile.now octets.now }
+{
+    octets.len() < activity_length(profile, octets)
 }
 
 /// Adds the line of octets that are less than an activity.
@@ -122,10 +129,10 @@ fn tell_activities<A: Allocator + Copy>(
     if number == 0 {
         return Ok(());
     }
-    let taken = activity_length(profile, octets);
-    if octets.len() < taken {
+    if is_cut(profile, octets) {
         return tell_cut(out, place, profile, octets);
     }
+    let taken = activity_length(profile, octets);
     tell_activity(alloc, out, place, word, profile, octets)?;
     let others = octets_from(octets, taken);
     let place = place.later(taken as u32);

@@ -2,7 +2,7 @@
 ghost use Rattle.std.specs.Prelude.{◌≡◌, ◌++◌, ◌≤◌, IfOk, OnOk, length, true};
 ghost use Rattle.tc_octets.specs.TcFrames.{check_length};
 ghost use Rattle.tc_decoded.specs.Added.{Added};
-ghost use Rattle.tc_decoded.specs.TcFrameLines.{FieldsTold, Judged, TcFrameTold, closing_rows, control_rows, field_length, flag_in};
+ghost use Rattle.tc_decoded.specs.TcFrameLines.{FieldsTold, Judged, TcFrameTold, carries, closing_rows, control_rows, field_length, flag_in};
 ghost use Rattle.tc_decoded.specs.TcFrameLines.{front_rows, header_rows, is_command, is_control, is_set_vr, packet_at, packet_length};
 ghost use Rattle.tc_decoded.specs.TcFrameLines.{packet_rows, segment_rows, sequence_fit};
 ghost use Rattle.tc_decoded.specs.Rows.{told};
@@ -272,6 +272,13 @@ fn tell_carrier<A: Allocator + Copy>(
     tell(out, place, None, octets, &rows)
 }
 
+/// Whether a frame that is refused by this word, or taken, has a packet whose lines are told.
+fn carries(word: Option<Word>, octets: &[u8]) -> bool
+    ensures { result ≡ carries word octets.now }
+{
+    word.is_none() && !is_control(octets)
+}
+
 /// Adds the lines of a telecommand transfer frame: its fields, up to the one for which the reader refuses it, and those of its packet.
 pub(crate) fn tell_tc_frame<A: Allocator + Copy>(
     alloc: A,
@@ -285,7 +292,7 @@ pub(crate) fn tell_tc_frame<A: Allocator + Copy>(
     ensures { OnOk result (Added (TcFrameTold place.now profile.now octets.now) out.old.items out.new.items) }
 {
     let word = frame_word(profile, octets);
-    if word.is_none() && !is_control(octets) {
+    if carries(word, octets) {
         return tell_carrier(alloc, out, place, profile, octets);
     }
     tell_fields(alloc, out, place, word, profile, octets)

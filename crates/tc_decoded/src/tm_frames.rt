@@ -1,5 +1,5 @@
 //! The lines of telemetry transfer frames.
-ghost use Rattle.std.specs.Prelude.{◌≡◌, ◌+◌, ◌++◌, ◌≤◌, OnOk, length, map, true};
+ghost use Rattle.std.specs.Prelude.{◌≡◌, ◌+◌, ◌==◌, ◌++◌, ◌≤◌, OnOk, length, map, true};
 ghost use Rattle.tc_octets.specs.TmFrames.{tm_parts};
 ghost use Rattle.tc_packets.specs.Receivers.{given_of};
 ghost use Rattle.tc_decoded.specs.Added.{Added};
@@ -7,7 +7,7 @@ ghost use Rattle.tc_decoded.specs.Places.{the_whole};
 ghost use Rattle.tc_decoded.specs.Rows.{told};
 ghost use Rattle.tc_decoded.specs.Tables.{frame_check};
 ghost use Rattle.tc_decoded.specs.TmFrameLines.{DataTold, FieldsTold, GivenTold, OneTold, TmFrameTold, control_word_rows, given_length, has_packets};
-ghost use Rattle.tc_decoded.specs.TmFrameLines.{in_progress, left_rows, pointer_of, tm_header_rows, tm_word, word_rows};
+ghost use Rattle.tc_decoded.specs.TmFrameLines.{in_progress, left_rows, skips, tm_header_rows, tm_word, word_rows};
 
 use crate::lines::Line;
 use crate::names::Name;
@@ -24,7 +24,7 @@ use tc_packets::{Item, PacketReader};
 const HEADER: u32 = 6;
 
 /// The first header pointer of a frame that has idle data alone.
-const IDLE_DATA: u16 = 2046;
+const IDLE_DATA: usize = 2046;
 
 /// Returns the word of a fault.
 fn tm_word(fault: TmFault) -> Word
@@ -99,15 +99,21 @@ fn put_word<A: Allocator + Copy>(
     }
 }
 
+/// Whether the receiver of packets skips a frame with this status, whose data field has so many octets.
+fn is_skipped(status: u16, size: usize) -> bool
+    ensures { result ≡ skips status size }
+{
+    let pointer = usize::from(status % 0x800);
+    status / 0x800 != 3 || size <= pointer && pointer < IDLE_DATA
+}
+
 /// Whether packets are read from a frame.
 fn has_packets(profile: &Profile, frame: &TmFrame) -> bool
     ensures { result ≡ has_packets profile.now (tm_parts frame.now) }
 {
-    let pointer = usize::from(frame.status % 0x800);
-    let size = frame.data.len();
-    let idle = usize::from(IDLE_DATA);
-    let skipped = frame.status / 0x800 != 3 || size <= pointer && pointer < idle;
-    frame.vcid == profile.tm.vcid && !skipped && pointer != idle
+    frame.vcid == profile.tm.vcid
+        && !is_skipped(frame.status, frame.data.len())
+        && usize::from(frame.status % 0x800) != IDLE_DATA
 }
 
 /// Adds octets of a packet whose other octets are in other frames, if there are any.

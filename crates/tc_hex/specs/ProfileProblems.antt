@@ -13,6 +13,9 @@ problem_words words.KeyTwice = codes "has a key that a line before it has"
 problem_words words.BadValue = codes "has a value that its key may not have"
 problem_words words.Clash = codes "tc.correct is yes, and tc.fecf is no"
 
+abbrev pub line_problem : ℕ → List ℕ → List ℕ
+line_problem line words = codes "line " ++ decimal line ++ codes " " ++ words
+
 -- the problem of the text as a whole, which has no line, or of a line
 abbrev pub problem : ProfileFault → List ℕ
-problem fault = if fault.line == 0 then problem_words fault.word else codes "line " ++ decimal fault.line ++ codes " " ++ problem_words fault.word
+problem fault = if fault.line == 0 then problem_words fault.word else line_problem fault.line (problem_words fault.word)

@@ -1,16 +1,16 @@
 //! The answers of lines that are read one after the other.
+ghost use Rattle.std.specs.Prelude.{◌≡◌, ◌<◌, Bool, ◌∷◌, ℕ, List, Some, if◌then◌else◌, IfOk, IfSome, OnOk, length, true, false};
+ghost use Rattle.std.specs.Io.BufRead.{drop_through, take_through};
+ghost use Rattle.std.specs.Io.KnownBytes.{Appends, IsAtEnd};
+ghost use Rattle.tc_hex.specs.Answers.{AnsweredFrom, Answers, without_end};
 
-use crate::answers::{Answer, answer};
-use crate::hex_texts::MOST_CHARACTERS;
+use crate::answers::answer_text;
 use std::alloc::{AllocError, Global};
 use std::io::{self, BufRead, Write};
 use tc_decoded::Layer;
 use tc_octets::Profile;
 
-/// The most bytes of a line that are kept: with its end, it is too long then, whatever follows.
-const MOST_LINE: u64 = 262_171;
-
-/// Why the lines were not answered to their end.
+/// Why lines were not answered to their end.
 #[derive(Clone, Copy, Debug, PartialEq, Eq)]
 pub enum AnswerFault {
     /// A line could not be read. Those before it were answered.
@@ -32,6 +32,13 @@ impl From<AllocError> for AnswerFault {
     }
 }
 
+/// Returns the exit status of answers: 0 if the octets of each text were read whole, else 1.
+fn status_of(are_whole: bool) -> u8
+    ensures { result ≡ (if are_whole then 0 else 1) }
+{
+    if are_whole { 0 } else { 1 }
+}
+
 /// Returns why a line was not read.
 fn unread(error: io::Error) -> AnswerFault {
     if error.kind() == io::ErrorKind::OutOfMemory {
@@ -41,31 +48,70 @@ fn unread(error: io::Error) -> AnswerFault {
     }
 }
 
-/// Returns the exit status of one more answer: 1 once an answer was not whole.
-fn status_after(status: u8, answer: &Answer) -> u8
-    ensures { result ≡ (if answer.now.is_whole then status else 1) }
+/// Reads a line with its LF. Returns whether there was one.
+fn read_line<R: BufRead>(reader: &mut R, line: &mut Vec<u8>) -> Result<bool, AnswerFault>
+    ensures line { IfOk result (λ is. is ≡ true → IfSome (R.remaining reader.old) (λ input.
+        (0 < length input) × (line.new.items ≡ take_through 10 input) × (R.remaining reader.new ≡ Some (drop_through 10 input)))) }
+    ensures end { IfOk result (λ is. is ≡ false → IsAtEnd (R.remaining reader.old) × (R.remaining reader.new ≡ R.remaining reader.old)) }
 {
-    if answer.is_whole { status } else { 1 }
+    line.clear();
+    match reader.read_until(b'\n', line) {
+        Ok(count) => Ok(count > 0),
+        Err(error) => Err(unread(error)),
+    }
 }
 
-/// Reads a line without its LF, and without a CR before it. Returns whether there was one.
-fn read_line<R: BufRead>(reader: &mut R, line: &mut Vec<u8>) -> Result<bool, AnswerFault> {
-    line.clear();
-    let count = match reader.by_ref().take(MOST_LINE).read_until(b'\n', line) {
-        Ok(count) => count,
-        Err(error) => return Err(unread(error)),
-    };
-    if line.last() == Some(&b'\n') {
-        line.pop();
-        if line.last() == Some(&b'\r') {
-            line.pop();
-        }
-    } else if line.len() > MOST_CHARACTERS {
-        if let Err(error) = reader.skip_until(b'\n') {
-            return Err(unread(error));
-        }
+/// Returns a line without its LF, and without a CR before that.
+fn without_end(line: &[u8]) -> &[u8]
+    ensures { result.now ≡ without_end line.now }
+{
+    match line.strip_suffix(b"\n") {
+        Some(text) => text.strip_suffix(b"\r").unwrap_or(text),
+        None => line,
     }
-    Ok(count > 0)
+}
+
+/// Writes all of a text.
+fn put<W: Write>(writer: &mut W, text: &[u8]) -> Result<(), AnswerFault>
+    ensures { OnOk result (Appends (W.contents writer.old) (W.contents writer.new) text.now) }
+{
+    match writer.write_all(text) {
+        Ok(()) => Ok(()),
+        Err(_) => Err(AnswerFault::Output),
+    }
+}
+
+/// Writes the answer of a text. Returns whether its octets were read whole.
+fn put_answer<W: Write>(
+    alloc: Global,
+    profile: &Profile,
+    layer: Layer,
+    text: &[u8],
+    writer: &mut W,
+) -> Result<bool, AnswerFault>
+    ensures { IfOk result (λ is_whole. (answer : List ℕ) × Answers profile.now layer text.now answer is_whole × Appends (W.contents writer.old) (W.contents writer.new) answer) }
+{
+    let answer = answer_text(alloc, profile, layer, text)?;
+    put(writer, answer.text.as_bytes())?;
+    Ok(answer.is_whole)
+}
+
+/// Writes the answer of a line, after an empty line if another answer stands before it. Returns whether its octets were read whole.
+fn put_next<W: Write>(
+    alloc: Global,
+    profile: &Profile,
+    layer: Layer,
+    is_later: bool,
+    line: &[u8],
+    writer: &mut W,
+) -> Result<bool, AnswerFault>
+    ensures { IfOk result (λ is_whole. (answer : List ℕ) × Answers profile.now layer (without_end line.now) answer is_whole
+        × Appends (W.contents writer.old) (W.contents writer.new) (if is_later then 10 ∷ answer else answer)) }
+{
+    if is_later {
+        put(writer, b"\n")?;
+    }
+    put_answer(alloc, profile, layer, without_end(line), writer)
 }
 
 /// Writes the answer of a text. Gives the exit status: 0 if its octets were read whole, else 1.
@@ -75,32 +121,35 @@ pub fn write_answer<W: Write>(
     layer: Layer,
     text: &[u8],
     writer: &mut W,
-) -> Result<u8, AnswerFault> {
-    let answer = answer(alloc, profile, layer, text)?;
-    match writer.write_all(answer.text.as_bytes()) {
-        Ok(()) => Ok(status_after(0, &answer)),
-        Err(_) => Err(AnswerFault::Output),
-    }
+) -> Result<u8, AnswerFault>
+    ensures { IfOk result (λ status. (answer : List ℕ) × (is_whole : Bool) × Answers profile.now layer text.now answer is_whole
+        × Appends (W.contents writer.old) (W.contents writer.new) answer × (status ≡ (if is_whole then 0 else 1))) }
+{
+    let is_whole = put_answer(alloc, profile, layer, text, writer)?;
+    Ok(status_of(is_whole))
 }
 
-/// Writes the answers of lines in turn, with an empty line between two. Gives the exit status: 0 if the octets of each were read whole, else 1.
+/// Writes the answers of all lines of an input in turn, with an empty line between two. Gives the exit status: 0 if the octets of each were read whole,
+/// else 1.
 pub fn write_answers<R: BufRead, W: Write>(
     alloc: Global,
     profile: &Profile,
     layer: Layer,
     reader: &mut R,
     writer: &mut W,
-) -> Result<u8, AnswerFault> {
+) -> Result<u8, AnswerFault>
+    ensures { IfOk result (λ status. IsAtEnd (R.remaining reader.new) × (count : ℕ) × (are_whole : Bool)
+        × AnsweredFrom profile.now layer (R.remaining reader.old) (R.remaining reader.new) (W.contents writer.old) (W.contents writer.new) count are_whole
+        × (status ≡ (if are_whole then 0 else 1))) }
+{
     let mut line = Vec::new(alloc);
-    let mut status = 0;
+    let mut are_whole = true;
     for place in 0..u64::MAX {
         if !read_line(reader, &mut line)? {
-            return Ok(status);
+            return Ok(status_of(are_whole));
         }
-        if place > 0 && writer.write_all(b"\n").is_err() {
-            return Err(AnswerFault::Output);
-        }
-        status = status.max(write_answer(alloc, profile, layer, &line, writer)?);
+        let is_whole = put_next(alloc, profile, layer, place > 0, &line, writer)?;
+        are_whole = are_whole && is_whole;
     }
-    Ok(status)
+    Err(AnswerFault::Input)
 }

@@ -62,7 +62,7 @@ fn answer_octets(
 }
 
 /// Returns the answer of a text: what its octets mean, field by field, or that it spells none.
-pub fn answer(
+pub fn answer_text(
     alloc: Global,
     profile: &Profile,
     layer: Layer,

@@ -1,5 +1,5 @@
 //! Texts of hexadecimal digits.
-ghost use Rattle.std.specs.Prelude.{◌≡◌, ◌⊎◌, ◌∷◌, [], ◌≤◌, length, IfErr, IfOk, Err, MatchOption, Ok};
+ghost use Rattle.std.specs.Prelude.{◌≡◌, ◌⊎◌, ◌∷◌, [], ◌≤◌, length, IfErr, IfOk, Err, MatchOption, Ok, vec_len};
 ghost use Rattle.hex.specs.Hex.{decode_sized};
 ghost use Rattle.hex.specs.declared.error.FromHexError.{FromHexError};
 ghost use Rattle.tc_hex.specs.HexTexts.{spelled_from, spelled_octets};
@@ -78,6 +78,7 @@ fn spelled_octets<A: Allocator + Copy + Drop>(alloc: A, text: &[u8]) -> Result<V
 /// Returns the octets that a text spells, of at most 65,542 octets in at most 262,168 characters.
 pub fn octets_in<A: Allocator + Copy + Drop>(alloc: A, text: &[u8]) -> Result<Vec<u8, A>, HexFault>
     ensures octets { IfOk result (λ octets. spelled_octets text.now ≡ Ok octets.items) }
+    ensures short { IfOk result (λ octets. vec_len octets ≤ MOST_OCTETS) }
     ensures fault { IfErr result (λ fault. (fault ≡ HexFault.Memory) ⊎ (spelled_octets text.now ≡ Err fault)) }
 {
     if text.len() > MOST_CHARACTERS {

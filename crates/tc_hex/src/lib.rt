@@ -7,6 +7,6 @@ mod hex_texts;
 mod profile_problems;
 
 pub use answering::{AnswerFault, write_answer, write_answers};
-pub use answers::{Answer, answer};
+pub use answers::{Answer, answer_text};
 pub use hex_texts::{HexFault, MOST_CHARACTERS, MOST_OCTETS, octets_in};
 pub use profile_problems::problem;

@@ -1,7 +1,7 @@
 //! Why a text is no profile of a link, in words for a person.
 ghost use Rattle.std.specs.Prelude.{◌≡◌, IfOk};
 ghost use Rattle.std.specs.String.{string_bytes};
-ghost use Rattle.tc_hex.specs.ProfileProblems.{problem, problem_words};
+ghost use Rattle.tc_hex.specs.ProfileProblems.{line_problem, problem, problem_words};
 
 use std::alloc::{AllocError, Global};
 use tc_octets::{ProfileFault, ProfileWord};
@@ -20,15 +20,23 @@ fn problem_words(word: ProfileWord) -> &'static str
     }
 }
 
+/// Returns what is wrong with a line, with its number.
+fn line_problem(alloc: Global, line: u32, words: &str) -> Result<String, AllocError>
+    ensures { IfOk result (λ text. string_bytes text ≡ line_problem line words.now) }
+{
+    let mut text = format!(in alloc; "line {line} ")?;
+    text.push_str(words)?;
+    Ok(text)
+}
+
 /// Returns why a text is no profile, with the line if one is wrong.
 pub fn problem(alloc: Global, fault: ProfileFault) -> Result<String, AllocError>
     ensures { IfOk result (λ text. string_bytes text ≡ problem fault) }
 {
     let words = problem_words(fault.word);
-    let line = fault.line;
-    if line == 0 {
+    if fault.line == 0 {
         String::from_str(alloc, words)
     } else {
-        format!(in alloc; "line {line} {words}")
+        line_problem(alloc, fault.line, words)
     }
 }

@@ -1,6 +1,6 @@
 -- Which numbers of a script's lines were used before, as the desk tells it: a call under each is posted that asks for nothing, so that no act is done by it.
 -- Only a number that was used is answered without a refusal.
-use Rattle.std.specs.Prelude.{◌≡◌, ◌==◌, ◌-◌, ℕ, Bool, Option, None, Some, if◌then◌else◌, codes, List, [], ◌∷◌, ◌++◌, length, slice_get}
+use Rattle.std.specs.Prelude.{◌≡◌, ◌==◌, ◌-◌, ℕ, Bool, Option, Some, if◌then◌else◌, codes, List, [], ◌∷◌, ◌++◌, length, slice_get}
 use Rattle.std.specs.Fmt.{decimal}
 use Rattle.tc_posts.specs.declared.posting.Posting.{Posting}
 use Rattle.tc_posts.specs.Posting.{AsksNothing, post_bytes}

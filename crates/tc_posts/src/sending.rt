@@ -1,5 +1,5 @@
 //! The lines of a script, sent to a desk one after the other.
-ghost use Rattle.std.specs.Prelude.{◌≡◌, ℕ, List, Bool, [], ◌∷◌, ◌++◌, IfOk, OnOk, map};
+ghost use Rattle.std.specs.Prelude.{◌≡◌, ℕ, List, [], ◌∷◌, ◌++◌, IfOk, OnOk, map};
 ghost use Rattle.tc_posts.specs.Numbered.{shown};
 ghost use Rattle.tc_posts.specs.Sending.{AreSent, AsksPlaces, IsLoop, IsSent, Sends, SendsAll};
 ghost use Rattle.tc_posts.specs.Steps.{Step, answered, placed, refuses, said, sent};

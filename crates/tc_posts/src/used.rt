@@ -1,5 +1,5 @@
 //! Which numbers of a script's lines were used before.
-ghost use Rattle.std.specs.Prelude.{◌≡◌, ◌++◌, ℕ, List, IfOk, OnOk, map};
+ghost use Rattle.std.specs.Prelude.{◌≡◌, ◌++◌, List, IfOk, OnOk, map};
 ghost use Rattle.std.specs.String.{string_bytes};
 ghost use Rattle.tc_posts.specs.Numbered.{shown};
 ghost use Rattle.tc_posts.specs.Steps.{Step};

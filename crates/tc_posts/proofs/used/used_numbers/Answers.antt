@@ -1,5 +1,4 @@
-use Rattle.std.proofs.Common.{rules, ◌<◌, ◌++◌, length, subst, sym}
-use Rattle.tc_posts.specs.Used.{numbers_if}
+use Rattle.std.proofs.Common.{rules, ◌<◌, ◌++◌, length}
 use Rattle.tc_posts.proofs.SendLemmas.{asked_next}
 use Rattle.tc_posts.proofs.used.used_numbers.Goals as goal
 
