@@ -1,3 +1,4 @@
 pub mod AddedLemmas
 pub mod FrameAddedLemmas
 pub mod CltuAddedLemmas
+pub mod FaultLemmas

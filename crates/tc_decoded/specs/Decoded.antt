@@ -1,6 +1,5 @@
 -- What is told of octets of a layer.
 use Rattle.std.specs.Prelude.{ℕ, Bool, true, false, List, Option, Some, None}
-use Rattle.std.specs.List.{list_any}
 use Rattle.tc_octets.specs.declared.profiles.Profile.{Profile}
 use Rattle.tc_decoded.specs.declared.decoding.Layer.{Layer}
 use Rattle.tc_decoded.specs.declared.decoding.Layer.TheVariants as layers

@@ -10,3 +10,4 @@ pub mod ReportLines
 pub mod TmFrameLines
 pub mod CltuLines
 pub mod Decoded
+pub mod Faults

@@ -40,6 +40,7 @@ macro_rules! count {
 mod cltus;
 mod decoding;
 mod inserts;
+pub mod laws;
 mod line_texts;
 mod lines;
 mod names;

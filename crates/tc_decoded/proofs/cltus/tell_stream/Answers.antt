@@ -1,5 +1,5 @@
 -- Octet by octet.
-use Rattle.std.proofs.Common.{◌≡◌, ◌+◌, ◌∙◌, ap, subst, refl}
+use Rattle.std.proofs.Common.{◌+◌, ◌∙◌, ap, subst, refl}
 use Rattle.std.specs.Prelude.{slice_index}
 use Rattle.tc_octets.specs.Cltus.{received}
 use Rattle.tc_octets.specs.declared.codeblocks.Mode.{Mode}

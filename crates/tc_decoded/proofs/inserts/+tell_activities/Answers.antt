@@ -1,5 +1,5 @@
 -- An activity that is cut, and one with others after it.
-use Rattle.std.proofs.Common.{◌≡◌, ◌∙◌, ap, sym}
+use Rattle.std.proofs.Common.{◌∙◌, ap, sym}
 use Rattle.std.specs.Prelude.{drop}
 use Rattle.std.proofs.lemmas.Result.{on_ok_weaker}
 use Rattle.tc_decoded.specs.Places.{later}

@@ -1,5 +1,5 @@
 -- The fields, the packet's lines, and what closes the frame.
-use Rattle.std.proofs.Common.{◌≡◌, List, ◌++◌, ◌∙◌, ap, None}
+use Rattle.std.proofs.Common.{List, ◌++◌, ◌∙◌, ap, None}
 use Rattle.std.proofs.lemmas.Result.{on_ok_weaker}
 use Rattle.tc_decoded.specs.TcFrameLines.{closing_rows}
 use Rattle.tc_decoded.specs.declared.rows.Row.{Row}
