@@ -253,9 +253,9 @@ fn tell_new_link(rt: &HostRuntime, telling: Telling, since: Moment, stood: usize
 /// of each response, and at the end those of the places. The lines have these numbers, whatever the desk answers; which of them were used before is said first, and then nothing is sent if
 /// all have to be new. With an echo each line stands before its answer, after `> `. Gives the exit status: 1 if anything was refused or nothing was sent, else 0. The script is read whole before
 /// the file is opened; the file is closed at the end, so that it alone holds everything.
-pub fn send_to_file(
-    rt: &HostRuntime,
-    script: &str,
+pub fn send_to_file<'a>(
+    rt: &'a HostRuntime,
+    script: &'a str,
     file: &str,
     opening: &Opening,
     numbers: Numbers,
