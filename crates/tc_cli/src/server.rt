@@ -1,4 +1,5 @@
 //! The loop of a server: connections are read beside each other, and their requests are served one at a time, in the order in which they became whole.
+ghost use Rattle.std.specs.Prelude.{None};
 ghost use Rattle.tc_front.specs.Front.{Asked, IsDecided};
 
 use crate::peers::{Peer, Stage};
