@@ -1,12 +1,12 @@
 -- One more line of an input, answered.
-use Rattle.std.proofs.Common.{◌≡◌, ◌∙◌, ◌<◌, ℕ, ◌+◌, zero, suc, Bool, true, false, ◌&&◌, nat_lt, List, [], ◌∷◌, ◌++◌, length, Option, Some, None, IfSome, refl, sym, ap, append_assoc, append-nil, arith, length-append}
+use Rattle.std.proofs.Common.{◌≡◌, ◌∙◌, ◌<◌, ℕ, ◌+◌, zero, suc, Bool, true, false, ◌&&◌, nat_lt, List, [], ◌∷◌, ◌++◌, length, Option, Some, None, Result, Ok, Err, IfOk, IfSome, refl, sym, ap, append_assoc, append-nil, arith, rules, length-append}
 use Rattle.std.specs.Prelude.{if◌then◌else◌}
 use Rattle.std.specs.Io.BufRead.{drop_through, take_through}
 use Rattle.std.specs.Io.KnownBytes.{Appends}
 use Rattle.std.proofs.KnownBytes.{Appends-trans}
 use Rattle.tc_octets.specs.declared.profiles.Profile.{Profile}
 use Rattle.tc_decoded.specs.declared.decoding.Layer.{Layer}
-use Rattle.tc_hex.specs.Answers.{AnsweredFrom, Answers, AreAnswered, BeginsWith, without_end}
+use Rattle.tc_hex.specs.Answers.{AnsweredFrom, Answers, AreAnswered, BeginsWith, separator, without_end}
 
 -- an answer stands before the next, if one does before these lines or one of these was answered
 abbrev pub after_lines : Bool → List (List ℕ) → Bool
@@ -18,8 +18,8 @@ after_true [] = refl
 after_true (line ∷ lines) = refl
 
 -- an answer with what stands before it
-abbrev pub set_apart : Bool → List ℕ → List ℕ
-set_apart after answer = if after then 10 ∷ answer else answer
+abbrev set_apart : Bool → List ℕ → List ℕ
+set_apart after answer = separator after ++ answer
 
 and_true : (b : Bool) → b ≡ (b && true)
 and_true true = refl
@@ -54,12 +54,12 @@ answered_more profile layer after (first ∷ lines) text are line answer is (fou
 
 counted : (lines : List (List ℕ)) (count : ℕ) → length lines ≡ count → nat_lt 0 count ≡ after_lines false lines
 counted [] count is = rw (← is) refl
-counted (line ∷ lines) count is = rw (← is) refl
+counted (line ∷ lines) count is = rw (← is) (search rules)
 
 pub more_answered : (profile : Profile) (layer : Layer) (given input before output : Option (List ℕ)) (count : ℕ) (are : Bool) (line answer : List ℕ) (is : Bool)
     (next written : Option (List ℕ)) → AnsweredFrom profile layer given input before output count are
     → IfSome input (λ rest. (0 < length rest) × (line ≡ take_through 10 rest) × (next ≡ Some (drop_through 10 rest)))
-    → Answers profile layer (without_end line) answer is → Appends output written (set_apart (nat_lt 0 count) answer)
+    → Answers profile layer (without_end line) answer is → Appends output written (separator (nat_lt 0 count) ++ answer)
     → AnsweredFrom profile layer given next before written (count + 1) (are && is)
 more_answered profile layer None input before output count are line answer is next written so_far read one appends = tt
 more_answered profile layer (Some given) input before output count are line answer is next written (lines, rest, text, left, begins, number, answered, out) read one appends =
@@ -78,3 +78,18 @@ pub none_answered : (profile : Profile) (layer : Layer) (input output : Option (
 none_answered profile layer None output = tt
 none_answered profile layer (Some given) None = ([], given, [], refl, refl, refl, (refl, refl), tt)
 none_answered profile layer (Some given) (Some text) = ([], given, [], refl, refl, refl, (refl, refl), sym (append-nil text))
+
+pub all_answered : (profile : Profile) (layer : Layer) (given input before output next : Option (List ℕ)) (count : ℕ) (are : Bool)
+    → AnsweredFrom profile layer given input before output count are → IfSome input (λ rest. (rest ≡ []) × (next ≡ Some []))
+    → IfSome given (λ _. next ≡ Some []) × AnsweredFrom profile layer given next before output count are
+all_answered profile layer None input before output next count are so_far end = (tt, tt)
+all_answered profile layer (Some given) input before output next count are (lines, rest, text, left, begins, number, answered, out) end =
+    let found = rw left at end in
+    (found.1, (lines, [], text, found.1, rw (← found.0) begins, number, answered, out))
+
+-- an answer that was written after what stands before it
+pub put_apart : {E : Type 0} (r : Result Bool E) (P : List ℕ → Bool → Type 0) (old between new : Option (List ℕ)) (before : List ℕ) → Appends old between before
+    → IfOk r (λ is. (answer : List ℕ) × P answer is × Appends between new answer)
+    → IfOk r (λ is. (answer : List ℕ) × P answer is × Appends old new (before ++ answer))
+put_apart (Err fault) P old between new before apart given = tt
+put_apart (Ok is) P old between new before apart (answer, one, out) = (answer, one, Appends-trans old between new before answer apart out)

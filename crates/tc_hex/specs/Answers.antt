@@ -1,5 +1,5 @@
 -- What a text of octets is answered, and what the lines of an input are (this desk's own).
-use Rattle.std.specs.Prelude.{◌≡◌, ◌<◌, ⊤, ⊥, ℕ, Bool, true, false, not, ◌&&◌, if◌then◌else◌, List, [], ◌∷◌, ◌++◌, length, MatchResult, Option, Some, None, codes}
+use Rattle.std.specs.Prelude.{◌≡◌, ◌<◌, ⊤, ℕ, Bool, true, false, not, ◌&&◌, if◌then◌else◌, List, [], ◌∷◌, ◌++◌, length, MatchResult, Option, Some, None, codes}
 use Rattle.std.specs.List.{flat_map, list_any}
 use Rattle.std.specs.Fmt.{decimal}
 use Rattle.std.specs.Io.BufRead.{drop_through, ends_with_byte, strip_last, take_through}
@@ -46,13 +46,17 @@ abbrev pub BeginsWith : List ℕ → List (List ℕ) → List ℕ → Type 0
 BeginsWith input [] rest = input ≡ rest
 BeginsWith input (line ∷ lines) rest = (0 < length input) × (line ≡ take_through 10 input) × BeginsWith (drop_through 10 input) lines rest
 
+-- what stands before an answer: an empty line, if another one stands before that
+abbrev pub separator : Bool → List ℕ
+separator after = if after then 10 ∷ [] else []
+
 -- lines have these answers in turn, with an LF between two; `after` says whether an answer stands before the first
 abbrev pub AreAnswered : Profile → Layer → Bool → List (List ℕ) → List ℕ → Bool → Type 0
 AreAnswered profile layer after [] text are_whole = (text ≡ []) × (are_whole ≡ true)
 AreAnswered profile layer after (line ∷ lines) text are_whole =
     (answer later : List ℕ) × (is_whole rest_are : Bool) × Answers profile layer (without_end line) answer is_whole
     × AreAnswered profile layer true lines later rest_are
-    × (text ≡ (if after then 10 ∷ answer else answer) ++ later) × (are_whole ≡ (is_whole && rest_are))
+    × (text ≡ (separator after ++ answer) ++ later) × (are_whole ≡ (is_whole && rest_are))
 
 -- an input and an output, of which the content may not be known, were so, and are so after lines of the one were answered on the other
 abbrev pub AnsweredFrom : Profile → Layer → Option (List ℕ) → Option (List ℕ) → Option (List ℕ) → Option (List ℕ) → ℕ → Bool → Type 0

@@ -1,8 +1,8 @@
 //! The answers of lines that are read one after the other.
-ghost use Rattle.std.specs.Prelude.{◌≡◌, ◌<◌, Bool, ◌∷◌, ℕ, List, Some, if◌then◌else◌, IfOk, IfSome, OnOk, length, true, false};
+ghost use Rattle.std.specs.Prelude.{◌≡◌, ◌<◌, ◌&&◌, ◌++◌, Bool, [], ℕ, List, Some, if◌then◌else◌, IfOk, IfSome, OnOk, length, true, false};
 ghost use Rattle.std.specs.Io.BufRead.{drop_through, take_through};
-ghost use Rattle.std.specs.Io.KnownBytes.{Appends, IsAtEnd};
-ghost use Rattle.tc_hex.specs.Answers.{AnsweredFrom, Answers, without_end};
+ghost use Rattle.std.specs.Io.KnownBytes.{Appends};
+ghost use Rattle.tc_hex.specs.Answers.{AnsweredFrom, Answers, separator, without_end};
 
 use crate::answers::answer_text;
 use std::alloc::{AllocError, Global};
@@ -52,7 +52,7 @@ fn unread(error: io::Error) -> AnswerFault {
 fn read_line<R: BufRead>(reader: &mut R, line: &mut Vec<u8>) -> Result<bool, AnswerFault>
     ensures line { IfOk result (λ is. is ≡ true → IfSome (R.remaining reader.old) (λ input.
         (0 < length input) × (line.new.items ≡ take_through 10 input) × (R.remaining reader.new ≡ Some (drop_through 10 input)))) }
-    ensures end { IfOk result (λ is. is ≡ false → IsAtEnd (R.remaining reader.old) × (R.remaining reader.new ≡ R.remaining reader.old)) }
+    ensures end { IfOk result (λ is. is ≡ false → IfSome (R.remaining reader.old) (λ input. (input ≡ []) × (R.remaining reader.new ≡ Some []))) }
 {
     line.clear();
     match reader.read_until(b'\n', line) {
@@ -96,6 +96,20 @@ fn put_answer<W: Write>(
     Ok(answer.is_whole)
 }
 
+/// Returns what stands before an answer.
+fn separator(is_later: bool) -> &'static str
+    ensures { result.now ≡ separator is_later }
+{
+    if is_later { "\n" } else { "" }
+}
+
+/// Returns whether both answers are whole.
+fn both(one: bool, other: bool) -> bool
+    ensures { result ≡ (one && other) }
+{
+    one && other
+}
+
 /// Writes the answer of a line, after an empty line if another answer stands before it. Returns whether its octets were read whole.
 fn put_next<W: Write>(
     alloc: Global,
@@ -106,11 +120,9 @@ fn put_next<W: Write>(
     writer: &mut W,
 ) -> Result<bool, AnswerFault>
     ensures { IfOk result (λ is_whole. (answer : List ℕ) × Answers profile.now layer (without_end line.now) answer is_whole
-        × Appends (W.contents writer.old) (W.contents writer.new) (if is_later then 10 ∷ answer else answer)) }
+        × Appends (W.contents writer.old) (W.contents writer.new) (separator is_later ++ answer)) }
 {
-    if is_later {
-        put(writer, b"\n")?;
-    }
+    put(writer, separator(is_later).as_bytes())?;
     put_answer(alloc, profile, layer, without_end(line), writer)
 }
 
@@ -138,7 +150,7 @@ pub fn write_answers<R: BufRead, W: Write>(
     reader: &mut R,
     writer: &mut W,
 ) -> Result<u8, AnswerFault>
-    ensures { IfOk result (λ status. IsAtEnd (R.remaining reader.new) × (count : ℕ) × (are_whole : Bool)
+    ensures { IfOk result (λ status. (count : ℕ) × (are_whole : Bool) × IfSome (R.remaining reader.old) (λ _. R.remaining reader.new ≡ Some [])
         × AnsweredFrom profile.now layer (R.remaining reader.old) (R.remaining reader.new) (W.contents writer.old) (W.contents writer.new) count are_whole
         × (status ≡ (if are_whole then 0 else 1))) }
 {
@@ -149,7 +161,7 @@ pub fn write_answers<R: BufRead, W: Write>(
             return Ok(status_of(are_whole));
         }
         let is_whole = put_next(alloc, profile, layer, place > 0, &line, writer)?;
-        are_whole = are_whole && is_whole;
+        are_whole = both(are_whole, is_whole);
     }
     Err(AnswerFault::Input)
 }

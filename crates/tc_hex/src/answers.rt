@@ -1,5 +1,5 @@
 //! The answer of a text of octets.
-ghost use Rattle.std.specs.Prelude.{◌≡◌, IfOk};
+ghost use Rattle.std.specs.Prelude.{◌≡◌, ◌≤◌, IfOk, length};
 ghost use Rattle.std.specs.String.{string_bytes};
 ghost use Rattle.tc_hex.specs.Answers.{Answers, Means, fault_line, lines_text};
 
@@ -29,7 +29,7 @@ fn fault_line(alloc: Global, fault: HexFault) -> Result<String, AllocError>
             alloc,
             "not octets: more than 65542 octets, or than 262168 characters\n",
         ),
-        HexFault::Memory => Err(AllocError),
+        HexFault::Memory => Ok(String::new(alloc)),
     }
 }
 
@@ -52,6 +52,7 @@ fn answer_octets(
     layer: Layer,
     octets: &[u8],
 ) -> Result<Answer, AllocError>
+    requires { length octets.now ≤ 65542 }
     ensures { IfOk result (λ answer. Means profile.now layer octets.now (string_bytes answer.text) answer.is_whole) }
 {
     let lines = decoded(alloc, profile, layer, octets)?;
@@ -72,6 +73,7 @@ pub fn answer_text(
 {
     match octets_in(alloc, text) {
         Ok(octets) => answer_octets(alloc, profile, layer, &octets),
+        Err(HexFault::Memory) => Err(AllocError),
         Err(fault) => Ok(Answer {
             text: fault_line(alloc, fault)?,
             is_whole: false,
