@@ -16,6 +16,9 @@ class Entry(NamedTuple):
 
 C_COMPILER = "a C compiler (Debian: gcc, libc6-dev)"
 HALF = str(max(1, (os.cpu_count() or 1) // 2))  # of the processors: other entries run beside the edits
+# Entries that speak over sockets or to several processes, whose answers have to come within seconds. One that failed beside others is run once more, alone.
+HANG_ON_TIME = frozenset(("bare", "backup", "board", "browser", "calls", "curl", "door", "http", "http-faults", "http-stalls", "kept", "limits", "login", "loop", "manual",
+                          "package", "postgres", "proxy", "repeats", "replica", "server-ends", "stop-posts"))
 # In the order in which the gate runs them.
 ENTRIES = (
     Entry("edits-test", "the tool for edits, on a small crate of wrong, harmless and unreadable ones", command=("edits/edits_test.py",), needs="rt"),

@@ -5,7 +5,7 @@ import shutil
 import time
 from concurrent.futures import ThreadPoolExecutor
 from http.client import HTTPException
-from typing import Optional
+from typing import Callable, Optional, Sequence
 
 from generate import http_posts as posts
 from generate.http_words import body_of
@@ -99,16 +99,10 @@ def logged(cases: Cases, folder: str) -> None:
     with Server(cases.program, folder, "desk.db", None) as server, Proxy(folder, "tcdesk-password", server.port) as proxy:
         server.connect().close()
         ann = Client(proxy, ANN)
-        ann.get()
-        ann.post("/acts", entry(1))
-        ann.post("/acts", entry(2, "bob"))
-        ann.post("/acts", "{}")
-        ann.get("/none")
-        ann.get("/countersign")
-        Client(proxy, BOB).get("/acts")
-        for login in ("ann:wrong", "eve:secret", None):
-            Client(proxy, login).get()
-        Client(proxy, "ann:wrong").get("/tcdesk-internal/places")
+        one_by_one(proxy, [lambda: ann.get(), lambda: ann.post("/acts", entry(1)), lambda: ann.post("/acts", entry(2, "bob")), lambda: ann.post("/acts", "{}"),
+                           lambda: ann.get("/none"), lambda: ann.get("/countersign"), lambda: Client(proxy, BOB).get("/acts"),
+                           *(lambda login=login: Client(proxy, login).get() for login in ("ann:wrong", "eve:secret", None)),
+                           lambda: Client(proxy, "ann:wrong").get("/tcdesk-internal/places")])
         wanted = ["ann 200", "ann 200", "ann 403", "ann 400", "ann 404", "ann 200", "bob 405", "- 401", "- 401", "- 401", "- 404"]
         cases.tell("whom the log names, by password", wanted, persons(proxy, len(wanted)))
     files = folder_in(folder, "certificate")
@@ -116,13 +110,17 @@ def logged(cases: Cases, folder: str) -> None:
     with Server(cases.program, folder, "other.db", None) as server, Proxy(files, "tcdesk-certificate", server.port) as proxy:
         server.connect().close()
         both = Client(proxy, BOB, "ann")
-        both.get()
-        both.post("/acts", entry(1))
-        both.post("/acts", entry(2, "bob"))
-        Client(proxy, BOB, "two").get()
-        Client(proxy, BOB).get()
+        one_by_one(proxy, [lambda: both.get(), lambda: both.post("/acts", entry(1)), lambda: both.post("/acts", entry(2, "bob")),
+                           lambda: Client(proxy, BOB, "two").get(), lambda: Client(proxy, BOB).get()])
         wanted = ["ann 200", "ann 200", "ann 403", "- 403", "- 400"]
         cases.tell("whom the log names, by certificate", wanted, persons(proxy, len(wanted)))
+
+
+def one_by_one(proxy: Proxy, requests: Sequence[Callable[[], object]]) -> None:
+    """Asks each once the one before stands in the log: nginx writes a line after its answer, and two processes of it in any order."""
+    for count, request in enumerate(requests, 1):
+        request()
+        proxy.noted(count)
 
 
 def persons(proxy: Proxy, count: int) -> list[str]:

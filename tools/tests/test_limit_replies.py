@@ -2,7 +2,7 @@
 table.
 
 A reply comes to 65,535, 65,536 and 65,537 bytes, and to more than 73,500 where 127 inserts of eight activities are out as the service ends, and
-one more waits. The desk keeps 3,001, 65,537 and 100,001 replies, each to an act that it carried out, by `loop`. The desk has no limit of either,
+one more waits. It has more than 200 lines, and `loop` prints all of them. The desk keeps 3,001, 65,537 and 100,001 replies, each to an act that it carried out, by `loop`. The desk has no limit of either,
 so none may be met.
 """
 import subprocess
@@ -20,20 +20,20 @@ from tests.runs import write_lines
 
 LENGTHS = (65_535, 65_536, 65_537, None)
 COUNTS = (3_001, 65_537, 100_001)
-LONGEST, MOST_TOLD = 73_500, 200
+LONGEST = 73_500
 PERSONS = ("ann", "b", "7")  # of short names: a script has 1,048,576 bytes at most
 
 
 class Replies(Served):
     """Desks that keep replies."""
 
-    def loops(self, folder: str, lines: list[str], first: int) -> list[str]:
-        """What `loop` prints of these lines, whose first has this number."""
+    def loops(self, folder: str, lines: list[str], first: int, note: str = "") -> list[str]:
+        """What `loop` prints of these lines, whose first has this number. It has to say this besides."""
         write_lines(f"{folder}/loop.tc", lines)
         words = ["loop", "desk.db", "loop.tc", "--first", str(first)]
         new = said_first(folder, words)
         ran = subprocess.run([self.cases.program, *words], cwd=folder, stdin=subprocess.DEVNULL, capture_output=True, text=True, check=False)
-        self.cases.tell(f"loop from {first}: its end", (0, ""), (ran.returncode, said_then(new, ran.returncode, ran.stderr)))
+        self.cases.tell(f"loop from {first}: its end", (0, note), (ran.returncode, said_then(new, ran.returncode, ran.stderr)))
         return ran.stdout.splitlines()
 
     def served(self, name: str, folder: str, cases: list[Case], desk: Desk, *words: str) -> None:
@@ -63,8 +63,9 @@ class Replies(Served):
             desk = Desk.opened(desk.tables(), moment)
             self.served(f"{name}, opened at {moment}", folder, again, desk, "--at", str(moment))
         desk = Desk.opened(desk.tables(), 0)
-        told = self.loops(folder, [f"{MOMENT} {BY} terminate"], desk.replies[-1].number)
-        self.cases.tell(f"{name}: by loop", body.splitlines()[:MOST_TOLD] + [desk.places()], told)
+        number = desk.replies[-1].number
+        told = self.loops(folder, [f"{MOMENT} {BY} terminate"], number, f"tcdesk: number {number} is used: its reply is that of the first run\n")
+        self.cases.tell(f"{name}: by loop, whole", body.splitlines() + [desk.places()], told)
 
     def lines(self, first: int, last: int) -> Iterator[str]:
         """The lines of these numbers: requests are entered now and then."""

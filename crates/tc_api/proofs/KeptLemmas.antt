@@ -21,14 +21,14 @@ use Rattle.tc_world.specs.EitherLink.{either}
 use Rattle.tc_desk.specs.Machine.{stamp_of}
 use Rattle.tc_desk.specs.Replies.{Reply, refusal_reply}
 use Rattle.tc_room.specs.declared.callers.Caller.{Caller}
-use Rattle.tc_room.specs.Calls.{ActsAnew, AnswersActCall, AnswersCall, AnswersLoadCall, FailsOnce, KeepsAll, LoadsAnew, MakesNothing, Makes, MakesOnce, Making, StaysSo, a_load, a_look, an_act, kept_after, kept_for}
+use Rattle.tc_room.specs.Calls.{ActsAnew, AnswersActCall, AnswersCall, AnswersLoadCall, FailsLook, KeepsAll, LoadsAnew, Makes, MakesOnce, Making, StaysSo, a_load, a_look, an_act, kept_after, kept_for}
 use Rattle.tc_room.specs.Crash.{ledger_of}
 use Rattle.tc_room.specs.Joined.{HasLedger, HoldsBook, Standing, desk_in}
 use Rattle.tc_room.specs.Replies.{ended, is_refused}
 use Rattle.tc_room.specs.Room.{FailsStore, RoomStep, StepsDesk}
 use Rattle.tc_room.proofs.CallLemmas.{act_call_held, keeps_after, load_call_held, refuses as are_refused}
 use Rattle.tc_api.specs.Acts.{ActCall}
-use Rattle.tc_api.specs.Kept.{FailedAt, FailsTables, KeepsRoom, KeepsTables, ServesAll, ServesRead}
+use Rattle.tc_api.specs.Kept.{FailedAt, FailsTables, KeepsRoom, KeepsTables, ServesAll, ServesOne, ServesRead}
 use Rattle.tc_api.specs.Loads.{LoadCall}
 use Rattle.tc_api.specs.Serving.{Outcome, Serves, ServesActCall, ServesBody, ServesLoadCall, ServesPost, ServesText}
 
@@ -113,12 +113,12 @@ module _ {S : Type 0} (g : Ghosts S) (caller : Caller) (old new : Standing S) (a
 
   -- what a call in a room that goes on is answered
   abbrev Answered : List KeptAnswer → Type 0 → Type 0
-  Answered replies Anew = FailsOnce g replies caller MakesNothing old reply new
+  Answered replies Anew = FailsLook g replies caller old reply new
       ⊎ ((kept_for replies caller ≡ Some (ended reply)) × (is_refused reply ≡ false) × (asks_act ≡ true) × StaysSo g replies old new)
       ⊎ ((kept_for replies caller ≡ None) × Anew)
 
   answered_fails : (replies : List KeptAnswer) (Anew : Type 0) → (Anew → Fails replies) → Answered replies Anew → Fails replies
-  answered_fails replies Anew anew (inl fails) now = inr (caller, a_look, reply, fails)
+  answered_fails replies Anew anew (inl fails) now = inr (caller, a_look, reply, fails.fails)
   answered_fails replies Anew anew (inr (inl (kept, granted, is, stays))) now = not_both new.stopped now stays.going
   answered_fails replies Anew anew (inr (inr (none, made))) now = anew made now
 
@@ -170,7 +170,7 @@ module _ {S : Type 0} (g : Ghosts S) (caller : Caller) (old new : Standing S) (a
   load_goes replies kind moment name csv (is, inr (at, some, named, inr (given, spells, makes))) = makes_goes replies (a_load (record { by = caller.by; moment = at }) given) makes
 
   answered_goes : (replies : List KeptAnswer) (Anew : Type 0) → (Anew → Goes) → Answered g caller old new asks_act reply replies Anew → Goes
-  answered_goes replies Anew anew (inl fails) = no_refusal Store fails.reply
+  answered_goes replies Anew anew (inl fails) = no_refusal Store fails.fails.reply
   answered_goes replies Anew anew (inr (inl (kept, was, is, stays))) = stays.going
   answered_goes replies Anew anew (inr (inr (none, made))) = anew made
 
@@ -189,11 +189,11 @@ module _ {S : Type 0} (g : Ghosts S) (caller : Caller) (old new : Standing S) (a
 -- ---- what is served
 
 acts_keep : {S : Type 0} (g : Ghosts S) (old new : Standing S) (given : Result ActCall Refusal) (outcome : Outcome) → ServesActCall g old given outcome new → KeepsTables g old new
-acts_keep g old new (Ok call) outcome (asks_act, answers, ends) = act_call_keeps g call.caller old new asks_act outcome.reply call.moment call.text answers
+acts_keep g old new (Ok call) outcome (asks_act, answers, ends, _) = act_call_keeps g call.caller old new asks_act outcome.reply call.moment call.text answers
 acts_keep g old new (Err refusal) outcome (_, same) = same_keeps g old new same
 
 loads_keep : {S : Type 0} (g : Ghosts S) (old new : Standing S) (kind : LoadKind) (given : Result LoadCall Refusal) (outcome : Outcome) → ServesLoadCall g old kind given outcome new → KeepsTables g old new
-loads_keep g old new kind (Ok call) outcome (asks_act, answers, ends) = load_call_keeps g call.caller old new asks_act outcome.reply kind call.moment call.name call.csv answers
+loads_keep g old new kind (Ok call) outcome (asks_act, answers, ends, _) = load_call_keeps g call.caller old new asks_act outcome.reply kind call.moment call.name call.csv answers
 loads_keep g old new kind (Err refusal) outcome (_, same) = same_keeps g old new same
 
 text_keeps : {S : Type 0} (g : Ghosts S) (old new : Standing S) (kind : LoadKind) (body : List ℕ) (outcome : Outcome) → ServesText g old kind body outcome new → KeepsTables g old new
@@ -212,7 +212,7 @@ nobody = record { by = []; moment = 0 }
 
 serves_keeps : {S : Type 0} (since : ℕ) (g : Ghosts S) (old new : Standing S) (asked : Asked) (outcome : Outcome) → Serves since g old asked outcome new → KeepsTables g old new
 serves_keeps since g old new (refuses why) outcome (_, same) = same_keeps g old new same
-serves_keeps since g old new (asks query) outcome (steps, _) = step_keeps g old new nobody (act.Ask query) outcome.reply (steps nobody)
+serves_keeps since g old new (asks query) outcome (steps, _, _) = step_keeps g old new nobody (act.Ask query) outcome.reply (steps nobody)
 serves_keeps since g old new shows outcome serves = same_keeps g old new serves.same
 serves_keeps since g old new tells outcome serves = same_keeps g old new serves.same
 serves_keeps since g old new (posts post body) outcome serves = post_keeps g old new post body outcome serves
@@ -242,27 +242,40 @@ all_held g start end (read ∷ others) replies (next, one, later) held =
     (last.0, all_more replies mid.0 last.0 mid.1 last.1, last.2)
 
 -- the exchange at which the database failed is this one, or a later one
-failed_at : {S : Type 0} (g : Ghosts S) (replies : List KeptAnswer) (start next : Standing S) → KeepsPromise either (desk_in start) → HoldsBook g start replies → start.stopped ≡ false → next.stopped ≡ true → KeepsTables g start next
-    → FailedAt g replies start
-failed_at g replies start next promise held going stopped keeps = record {
+failed_at : {S : Type 0} (g : Ghosts S) (replies : List KeptAnswer) (start next end : Standing S) (read : Option Asked) (others : List (Option Asked)) → KeepsPromise either (desk_in start) → HoldsBook g start replies
+    → start.stopped ≡ false → next.stopped ≡ true → ServesOne g start read next → ServesAll g next others end → FailedAt g replies start (read ∷ others) end
+failed_at g replies start next end read others promise held going stopped one later = record {
+  before = [];
+  read = read;
+  after = others;
+  among = refl;
   last = start;
   next = next;
+  to_last = refl;
+  one = one;
+  to_end = later;
   held = replies;
   keeps = all_same replies;
-  opened = refl;
   promise = promise;
   going = going;
   stopped = stopped;
-  failed = λ clean. keeps.failed replies held clean going stopped;
+  failed = λ clean. let keeps : KeepsTables g start next = read_keeps g start next read one.served in keeps.failed replies held clean going stopped;
 }
 
-failed_later : {S : Type 0} (g : Ghosts S) (replies mid : List KeptAnswer) (start next : Standing S) → KeepsAll replies mid → next.opened ≡ start.opened → FailedAt g mid next → FailedAt g replies start
-failed_later g replies mid start next keeps same at = record {
+failed_later : {S : Type 0} (g : Ghosts S) (replies mid : List KeptAnswer) (start next end : Standing S) (read : Option Asked) (others : List (Option Asked)) → KeepsAll replies mid → ServesOne g start read next
+    → FailedAt g mid next others end → FailedAt g replies start (read ∷ others) end
+failed_later g replies mid start next end read others keeps one at = record {
+  before = read ∷ at.before;
+  read = at.read;
+  after = at.after;
+  among = ap (λ (reads : List (Option Asked)). read ∷ reads) at.among;
   last = at.last;
   next = at.next;
+  to_last = (next, one, at.to_last);
+  one = at.one;
+  to_end = at.to_end;
   held = at.held;
   keeps = all_more replies mid at.held keeps at.keeps;
-  opened = at.opened ∙ same;
   promise = at.promise;
   going = at.going;
   stopped = at.stopped;
@@ -274,16 +287,16 @@ at_flag true P on off = on refl
 at_flag false P on off = off refl
 
 all_failed : {S : Type 0} (g : Ghosts S) (start end : Standing S) (read : List (Option Asked)) (replies : List KeptAnswer) → KeepsPromise either (desk_in start) → ServesAll g start read end
-    → HoldsBook g start replies → start.stopped ≡ false → end.stopped ≡ true → FailedAt g replies start
+    → HoldsBook g start replies → start.stopped ≡ false → end.stopped ≡ true → FailedAt g replies start read end
 all_failed {S} g start end [] replies promise same held going stopped = absurd (false≢true (sym going ∙ (ap (λ (s : Standing S). s.stopped) (sym same) ∙ stopped)))
 all_failed g start end (read ∷ others) replies promise (next, one, later) held going stopped =
     let keeps : KeepsTables g start next = read_keeps g start next read one.served in
-    at_flag next.stopped (FailedAt g replies start) (λ is. failed_at g replies start next promise held going is keeps)
+    at_flag next.stopped (FailedAt g replies start (read ∷ others) end) (λ is. failed_at g replies start next end read others promise held going is one later)
     (λ is.
-    let mid = keeps.held replies held in failed_later g replies mid.0 start next mid.1 one.opened (all_failed g next end others mid.0 one.promise later mid.2 is stopped))
+    let mid = keeps.held replies held in failed_later g replies mid.0 start next end read others mid.1 one (all_failed g next end others mid.0 one.promise later mid.2 is stopped))
 
 -- The promise is kept after any exchanges.
-pub all_keep : {S : Type 0} (g : Ghosts S) (start end : Standing S) (read : List (Option Asked)) → KeepsPromise either (desk_in start) → ServesAll g start read end → KeepsRoom g start end
+pub all_keep : {S : Type 0} (g : Ghosts S) (start end : Standing S) (read : List (Option Asked)) → KeepsPromise either (desk_in start) → ServesAll g start read end → KeepsRoom g start read end
 all_keep g start end read promise serves = record {
   opened = all_opened g start end read serves;
   promise = all_promised g start end read promise serves;

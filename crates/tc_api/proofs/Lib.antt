@@ -6,3 +6,4 @@ mod OneLemmas
 mod OpeningLemmas
 mod ResponseLemmas
 mod ServingLemmas
+mod EachLemmas

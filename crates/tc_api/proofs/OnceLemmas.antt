@@ -15,9 +15,10 @@ use Rattle.tc_front.specs.Front.{Asked, asks, posts, refuses, shows, tells}
 use Rattle.tc_desk.specs.Replies.{Reply, refusal_reply}
 use Rattle.tc_room.specs.declared.callers.Caller.{Caller}
 use Rattle.tc_book.specs.Book.{Book}
-use Rattle.tc_room.specs.Calls.{ActsAnew, AnswersActCall, AnswersLoadCall, FailsOnce, IsMadeOnce, KeepsAll, LoadsAnew, Makes, MakesNothing, StaysSo, kept_after, kept_for}
+use Rattle.tc_room.specs.Calls.{ActsAnew, AnswersActCall, AnswersLoadCall, FailsLook, IsMadeOnce, KeepsAll, LoadsAnew, Makes, MakesNothing, StaysSo, kept_after, kept_for}
 use Rattle.tc_room.specs.Room.{MakesBook}
-use Rattle.tc_room.specs.Crash.{Leaves, ledger_of}
+use Rattle.sqlite_trees.specs.Tree.{Trees}
+use Rattle.tc_room.specs.Crash.{HasRows, Leaves, ledger_of}
 use Rattle.tc_room.specs.Joined.{HoldsBook, IsKept, LinkState, Standing}
 use Rattle.tc_room.specs.Replies.{ended, is_refused}
 use Rattle.tc_room.proofs.CallLemmas.{act_call_held, call_kept, keeps_with, load_call_held, refuses as are_refused}
@@ -26,7 +27,7 @@ use Rattle.tc_api.specs.declared.endings.Ending.TheVariants as ending
 use Rattle.tc_api.specs.Acts.{ActCall}
 use Rattle.tc_api.specs.Endings.{is_done}
 use Rattle.tc_api.specs.Exchange.{response_by, response_to}
-use Rattle.tc_api.specs.Kept.{Called, FailsTables, GoesThrough, IsCallOf, IsDoneOnce, IsRepeated, IsTheSame, KeepsTables, OpensNext, ServesOne, Stage, StopsWithNothing, exchange, opening}
+use Rattle.tc_api.specs.Kept.{Called, FailsTables, GoesThrough, IsCallOf, IsDoneOnce, IsRepeated, IsTheSame, KeepsTables, OpensNext, Refused, RefusesAll, ServesOne, Stage, StopsWithNothing, exchange, opening}
 use Rattle.tc_api.specs.Loads.{JudgesLoadPost, LoadCall}
 use Rattle.tc_api.specs.Responses.{response_bytes}
 use Rattle.tc_api.specs.Serving.{EndsWith, FindsNoMemory, IsOutcome, Outcome, Serves, ServesActCall, ServesLoadCall, ServesText}
@@ -39,7 +40,7 @@ record Seen {S : Type 0} (g : Ghosts S) (caller : Caller) (old : Standing S) (ou
   -- a room that has stopped says so; else the kept replies could not be read, or what is kept is the answer and nothing is done, or nothing was kept
   answers : (replies : List KeptAnswer) → HoldsBook g old replies → HasCleanDisk (state g new.tables) → MatchBool old.stopped
       ((outcome.reply ≡ refusal_reply Stopped) × (new ≡ old))
-      (FailsOnce g replies caller MakesNothing old outcome.reply new
+      (FailsLook g replies caller old outcome.reply new
       ⊎ ((kept_for replies caller ≡ Some (ended outcome.reply)) × (is_refused outcome.reply ≡ false) × (asks_act ≡ true) × StaysSo g replies old new)
       ⊎ (kept_for replies caller ≡ None))
   held : (replies : List KeptAnswer) → HoldsBook g old replies → HoldsBook g new (kept_after replies caller asks_act outcome.reply)
@@ -53,8 +54,8 @@ weaker true A B C make m = m
 weaker false A B C make m = make m
 
 forget : {S : Type 0} (g : Ghosts S) (replies : List KeptAnswer) (caller : Caller) (old new : Standing S) (asks_act : Bool) (reply : Reply) (Anew : Type 0)
-    → FailsOnce g replies caller MakesNothing old reply new ⊎ ((kept_for replies caller ≡ Some (ended reply)) × (is_refused reply ≡ false) × (asks_act ≡ true) × StaysSo g replies old new) ⊎ ((kept_for replies caller ≡ None) × Anew)
-    → FailsOnce g replies caller MakesNothing old reply new ⊎ ((kept_for replies caller ≡ Some (ended reply)) × (is_refused reply ≡ false) × (asks_act ≡ true) × StaysSo g replies old new) ⊎ (kept_for replies caller ≡ None)
+    → FailsLook g replies caller old reply new ⊎ ((kept_for replies caller ≡ Some (ended reply)) × (is_refused reply ≡ false) × (asks_act ≡ true) × StaysSo g replies old new) ⊎ ((kept_for replies caller ≡ None) × Anew)
+    → FailsLook g replies caller old reply new ⊎ ((kept_for replies caller ≡ Some (ended reply)) × (is_refused reply ≡ false) × (asks_act ≡ true) × StaysSo g replies old new) ⊎ (kept_for replies caller ≡ None)
 forget g replies caller old new asks_act reply Anew (inl fails) = inl fails
 forget g replies caller old new asks_act reply Anew (inr (inl repeats)) = inr (inl repeats)
 forget g replies caller old new asks_act reply Anew (inr (inr anew)) = inr (inr anew.0)
@@ -205,10 +206,18 @@ module _ {S : Type 0} (g : Ghosts S) (replies : List KeptAnswer) where
       stayed old new same clean was =
           subst (λ (s : Standing S). Leaves g s.tables (HasAll replies)) (sym same) (was.leaves (subst (λ (s : Standing S). HasCleanDisk (state g s.tables)) same clean))
 
+  -- openings that were refused
+  refused_still : (from left : Trees) (refused : List Refused) → (ledger : Ledger) × HasAll replies ledger × HasRows from ledger → RefusesAll from refused left → (ledger : Ledger) × HasAll replies ledger × HasRows left ledger
+  refused_still from left [] found same = (found.0, found.1, subst (λ (trees : Trees). HasRows trees found.0) (sym same) found.2)
+  refused_still from left (one ∷ others) found (mid, inl same, later) = refused_still mid left others (found.0, found.1, subst (λ (trees : Trees). HasRows trees found.0) (sym same) found.2) later
+  refused_still from left (one ∷ others) found (mid, inr opens, later) =
+      let to = opens found.0 found.2 found.1.0 in
+      refused_still mid left others (ledger_of to.2.book found.0.replies, (to.4.told, found.1.1), to.5) later
+
   -- the next room
-  opened_still : (last next : Standing S) (opens : OpensNext g last next) → (state g last.tables).may_leave opens.trees → HoldsStill g replies last → HoldsStill g replies next
+  opened_still : (last next : Standing S) (opens : OpensNext g last next) → (state g last.tables).may_leave opens.from → HoldsStill g replies last → HoldsStill g replies next
   opened_still last next opens left was =
-      let found = was.leaves opens.clean opens.trees left in
+      let found = refused_still opens.from opens.trees opens.refused (was.leaves opens.clean opens.from left) opens.refuses_all in
       let opened = opens.opened found.0 found.1.0 found.2 in
       let keeps : KeepsAll replies found.0.replies = found.1.1 in
       record {
@@ -230,13 +239,14 @@ before_only book replies caller ledger (inl same) = same
 before_only book replies caller ledger (inr made) = absurd made.2
 
 -- nothing was to be made, so a crash leaves what the files held
-leaves_nothing : {S : Type 0} (g : Ghosts S) (replies : List KeptAnswer) (caller : Caller) (old new : Standing S) (reply : Reply) → FailsOnce g replies caller MakesNothing old reply new
+leaves_nothing : {S : Type 0} (g : Ghosts S) (replies : List KeptAnswer) (caller : Caller) (old new : Standing S) (reply : Reply) → FailsLook g replies caller old reply new
     → StopsWithNothing g replies old reply new
 leaves_nothing g replies caller old new reply fails = record {
-  reply = fails.reply;
-  stopped = fails.stopped;
+  reply = fails.fails.reply;
+  stopped = fails.fails.stopped;
+  desk = fails.desk;
   files = λ trees may.
-      let left = fails.crash trees may in (left.0, before_only old.desk.book replies caller left.0 left.1, left.2);
+      let left = fails.fails.crash trees may in (left.0, before_only old.desk.book replies caller left.0 left.1, left.2);
 }
 
 -- ---- a call that comes again

@@ -1,8 +1,7 @@
 -- What is served.
-use Rattle.std.proofs.Common.{Bor, ◌≡◌, ◌∙◌, ◌⊎◌, inl, inr, ap, subst, refl, ℕ, Bool, false, List, [], ◌∷◌, Option, Some, None, Result, Ok, Err, String, Global}
+use Rattle.std.proofs.Common.{Bor, ◌≡◌, ◌∙◌, ◌⊎◌, inl, inr, ap, subst, refl, ℕ, Bool, false, List, [], ◌∷◌, Option, Some, None, Result, Ok, Err}
 use Rattle.std.specs.Prelude.{◌&&◌, IfSome}
 use Rattle.std.specs.Str.{IsUtf8}
-use Rattle.std.specs.String.{string_bytes}
 use Rattle.serde_json.specs.Data.{Data}
 use Rattle.serde_json.specs.Read.{read}
 use Rattle.sqlite_trees.specs.declared.store.Store.{Ghosts}
@@ -20,7 +19,7 @@ use Rattle.tc_front.specs.Front.{asked_of}
 use Rattle.tc_desk.specs.Replies.{Reply}
 use Rattle.tc_room.specs.Calls.{AnswersActCall, AnswersLoadCall}
 use Rattle.tc_room.specs.Joined.{Standing}
-use Rattle.tc_room.specs.Replies.{AreLines, ended}
+use Rattle.tc_room.specs.Truth.{LeavesLink, TellsTextTrue}
 use Rattle.tc_api.specs.declared.endings.Ending.{Ending}
 use Rattle.tc_api.specs.declared.endings.Ending.TheVariants as ending
 use Rattle.tc_api.specs.declared.serving.Served.{Served}
@@ -49,10 +48,10 @@ opening_told since room text served made plain has = rw made (record {
 -- ---- calls
 
 pub act_called : {S : Type 0} (g : Ghosts S) (old new : Standing S) (keys : Option ActKeys) (call : ActCall) (given : Result ActCall Refusal) (asks_act : Bool) (text : List ℕ) (outcome : Outcome) → given ≡ Ok call
-    → JudgesActKeys keys given → text ≡ call.text → AnswersActCall g call.caller call.moment text old asks_act outcome.reply new → IsOutcome asks_act outcome
+    → JudgesActKeys keys given → text ≡ call.text → AnswersActCall g call.caller call.moment text old asks_act outcome.reply new → IsOutcome asks_act outcome → TellsTextTrue text outcome.reply old new
     → (read : Result ActCall Refusal) × JudgesActKeys keys read × ServesActCall g old read outcome new
-act_called g old new keys call given asks_act text outcome is judged same answers ends =
-    (Ok call, subst (λ (r : Result ActCall Refusal). JudgesActKeys keys r) is judged, (asks_act, subst (λ (t : List ℕ). AnswersActCall g call.caller call.moment t old asks_act outcome.reply new) same answers, ends))
+act_called g old new keys call given asks_act text outcome is judged same answers ends tells =
+    (Ok call, subst (λ (r : Result ActCall Refusal). JudgesActKeys keys r) is judged, (asks_act, subst (λ (t : List ℕ). AnswersActCall g call.caller call.moment t old asks_act outcome.reply new) same answers, ends, subst (λ (t : List ℕ). TellsTextTrue t outcome.reply old new) same tells))
 
 pub act_refused : {S : Type 0} (g : Ghosts S) (old : Standing S) (keys : Option ActKeys) (refusal : Refusal) (given : Result ActCall Refusal) (outcome : Outcome) → given ≡ Err refusal
     → JudgesActKeys keys given → outcome ≡ refused_with refusal → (read : Result ActCall Refusal) × JudgesActKeys keys read × ServesActCall g old read outcome old
@@ -60,8 +59,8 @@ act_refused g old keys refusal given outcome is judged so = (Err refusal, subst 
 
 pub load_called : {S : Type 0} (g : Ghosts S) (old new : Standing S) (kind : LoadKind) (keys : Option LoadKeys) (call : LoadCall) (given : Result LoadCall Refusal) (asks_act : Bool) (name csv : List ℕ) (outcome : Outcome)
     → given ≡ Ok call → JudgesLoadKeys keys given → name ≡ call.name → csv ≡ call.csv → AnswersLoadCall g call.caller kind call.moment name csv old asks_act outcome.reply new → IsOutcome asks_act outcome
-    → ServesKeys g old kind keys outcome new
-load_called g old new kind keys call given asks_act name csv outcome is judged named same answers ends = (
+    → LeavesLink old new → ServesKeys g old kind keys outcome new
+load_called g old new kind keys call given asks_act name csv outcome is judged named same answers ends leaves = (
   Ok call,
   subst (λ (r : Result LoadCall Refusal). JudgesLoadKeys keys r) is judged,
   (
@@ -69,6 +68,7 @@ load_called g old new kind keys call given asks_act name csv outcome is judged n
     subst (λ (t : List ℕ). AnswersLoadCall g call.caller kind call.moment call.name t old asks_act outcome.reply new) same
         (subst (λ (n : List ℕ). AnswersLoadCall g call.caller kind call.moment n csv old asks_act outcome.reply new) named answers),
     ends,
+    leaves,
   ),
 )
 

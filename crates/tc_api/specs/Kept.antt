@@ -1,5 +1,5 @@
 -- What exchanges leave of a room, one after the other.
-use Rattle.std.specs.Prelude.{◌≡◌, ◌⊎◌, ℕ, true, false, Option, Some, None, Ok, List, [], ◌∷◌}
+use Rattle.std.specs.Prelude.{◌≡◌, ◌⊎◌, ℕ, true, false, Option, Some, None, Ok, List, [], ◌∷◌, ◌++◌}
 use Rattle.sqlite_trees.specs.Tree.{Trees}
 use Rattle.sqlite_trees.specs.declared.store.Store.{Ghosts}
 use Rattle.sqlite.specs.Held.{state}
@@ -20,7 +20,7 @@ use Rattle.tc_room.specs.Calls.{FailsOnce, KeepsAll, Makes, Making, kept_for}
 use Rattle.tc_room.specs.Crash.{HasRows, Leaves, ledger_of}
 use Rattle.tc_room.specs.Joined.{HoldsBook, IsKept, Standing, desk_in}
 use Rattle.tc_room.specs.Replies.{ended}
-use Rattle.tc_room.specs.Opening.{OpensLeft}
+use Rattle.tc_room.specs.Opening.{OpensLeft, OpensTo}
 use Rattle.tc_room.specs.Room.{FailsStore}
 use Rattle.tc_room.specs.declared.callers.Caller.{Caller}
 use Rattle.tc_api.specs.Acts.{ActCall, JudgesActPost}
@@ -60,24 +60,29 @@ ServesAll g old [] new = new ≡ old
 ServesAll {S} g old (read ∷ others) new = (next : Standing S) × ServesOne g old read next × ServesAll g next others new
 
 -- The database failed at one of them: until then the promise was kept, and of the tables it is as after any answer 31.
-pub record FailedAt {S : Type 0} (g : Ghosts S) (replies : List KeptAnswer) (start : Standing S) : Type 0 where
+pub record FailedAt {S : Type 0} (g : Ghosts S) (replies : List KeptAnswer) (start : Standing S) (reads : List (Option Asked)) (end : Standing S) : Type 0 where
+  pub before : List (Option Asked)
+  pub read : Option Asked
+  pub after : List (Option Asked)
+  pub among : reads ≡ before ++ read ∷ after
   pub last : Standing S
   pub next : Standing S
+  pub to_last : ServesAll g start before last
+  pub one : ServesOne g last read next
+  pub to_end : ServesAll g next after end
   pub held : List KeptAnswer
   pub keeps : KeepsAll replies held
-  pub opened : last.opened ≡ start.opened
   pub promise : KeepsPromise either (desk_in last)
   pub going : last.stopped ≡ false
   pub stopped : next.stopped ≡ true
   pub failed : HasCleanDisk (state g next.tables) → FailsTables g held last next
 
--- After any exchanges since a room was opened the promise is kept; and tables that held the book hold it, with each reply that was kept, until the
--- database failed.
-pub record KeepsRoom {S : Type 0} (g : Ghosts S) (start end : Standing S) : Type 0 where
+-- After these exchanges the promise is kept; and tables that held the book hold it, with each reply that was kept, until the database failed.
+pub record KeepsRoom {S : Type 0} (g : Ghosts S) (start : Standing S) (reads : List (Option Asked)) (end : Standing S) : Type 0 where
   pub opened : end.opened ≡ start.opened
   pub promise : KeepsPromise either (desk_in end)
   pub held : (replies : List KeptAnswer) → HoldsBook g start replies → (after : List KeptAnswer) × KeepsAll replies after × HoldsBook g end after
-  pub failed : (replies : List KeptAnswer) → HoldsBook g start replies → start.stopped ≡ false → end.stopped ≡ true → FailedAt g replies start
+  pub failed : (replies : List KeptAnswer) → HoldsBook g start replies → start.stopped ≡ false → end.stopped ≡ true → FailedAt g replies start reads end
 
 -- ---- a call that comes twice
 
@@ -105,15 +110,29 @@ pub data Stage : Type 0 where
   exchange : Option Asked → Stage
   opening : Stage
 
--- The next room was opened at a moment over tables that a crash, or the end of the program, may have left of the last one's, whichever rows they are read as. The
--- disk had given back what was written. Its book is one that a room keeps, as that of each room is.
+-- an opening that was refused: with which choice and at which moment it was tried
+pub record Refused : Type 0 where
+  pub config : Config
+  pub moment : ℕ
+
+-- These openings were refused one after the other. Each left what it found, or, if a crash ended it, the whole of what it makes of the rows that it found.
+abbrev pub RefusesAll : Trees → List Refused → Trees → Type 0
+RefusesAll from [] left = left ≡ from
+RefusesAll from (refused ∷ others) left =
+    (mid : Trees) × ((mid ≡ from) ⊎ ((ledger : Ledger) → HasRows from ledger → OpensTo refused.config refused.moment ledger mid)) × RefusesAll mid others left
+
+-- The next room was opened at a moment over tables that a crash, or the end of the program, may have left of the last one's, and openings that were refused of these,
+-- whichever rows they are read as. The disk had given back what was written. Its book is one that a room keeps, as that of each room is.
 pub record OpensNext {S : Type 0} (g : Ghosts S) (last next : Standing S) : Type 0 where
   pub config : Config
   pub moment : ℕ
   pub moves : List Move
-  pub trees : Trees
+  pub from : Trees
   pub clean : HasCleanDisk (state g last.tables)
-  pub left : ∥ (state g last.tables).may_leave trees ∥₁
+  pub left : ∥ (state g last.tables).may_leave from ∥₁
+  pub refused : List Refused
+  pub trees : Trees
+  pub refuses_all : RefusesAll from refused trees
   pub opened : (ledger : Ledger) → IsTold ledger.image → HasRows trees ledger → OpensLeft g config moment ledger moves next
   pub kept : IsKept next.desk.book
 
@@ -123,10 +142,11 @@ GoesThrough g start [] end = end ≡ start
 GoesThrough {S} g start (exchange read ∷ others) end = (next : Standing S) × ServesOne g start read next × GoesThrough g next others end
 GoesThrough {S} g start (opening ∷ others) end = (next : Standing S) × OpensNext g start next × GoesThrough g next others end
 
--- The database failed as the kept replies were looked for: the room stops, and its files hold what they held, so nothing was done.
+-- The database failed as the kept replies were looked for: the room stops, its desk is as it was, and its files hold what they held, so nothing was done.
 pub record StopsWithNothing {S : Type 0} (g : Ghosts S) (replies : List KeptAnswer) (old : Standing S) (told : Reply) (new : Standing S) : Type 0 where
   pub reply : told ≡ refusal_reply Store
   pub stopped : new.stopped ≡ true
+  pub desk : desk_in new ≡ desk_in old
   pub files : Leaves g new.tables (λ ledger. ledger ≡ ledger_of old.desk.book replies)
 
 -- The answer to a call that came again is the response of the first, byte for byte; or the room has stopped, or stops here, and says so; or there was no memory to read

@@ -8,3 +8,4 @@ pub mod Serving
 pub mod Exchange
 pub mod Kept
 pub mod Walls
+pub mod Each

@@ -20,7 +20,8 @@ use Rattle.tc_api.specs.Walls.{RefusesWall, TellsWall}
 use Rattle.tc_room.specs.Calls.{AnswersActCall, AnswersLoadCall}
 use Rattle.tc_room.specs.Joined.{Standing}
 use Rattle.tc_room.specs.Replies.{AreLines, ended, is_refused}
-use Rattle.tc_room.specs.Room.{RoomStep}
+use Rattle.tc_room.specs.Room.{LeavesDesk, RoomStep}
+use Rattle.tc_room.specs.Truth.{LeavesLink, TellsTextTrue}
 use Rattle.tc_api.specs.declared.endings.Ending.{Ending}
 use Rattle.tc_api.specs.declared.endings.Ending.TheVariants as ending
 use Rattle.tc_api.specs.declared.serving.Served.{Served}
@@ -60,9 +61,9 @@ refused_so ending refusal = record { reply = refusal_reply refusal; ending = end
 abbrev pub refused_with : Refusal → Outcome
 refused_with refusal = refused_so (ending.Refused refusal) refusal
 
--- A question makes its step, whoever asks.
+-- A question makes its step, whoever asks, and leaves the desk as it was.
 abbrev pub ServesQuery : {S : Type 0} → Ghosts S → Standing S → Query → Outcome → Standing S → Type 0
-ServesQuery g old query outcome new = ((stamp : Stamp) → RoomStep g old stamp (act.Ask query) outcome.reply new) × IsOutcome false outcome
+ServesQuery g old query outcome new = ((stamp : Stamp) → RoomStep g old stamp (act.Ask query) outcome.reply new) × IsOutcome false outcome × LeavesDesk g old new
 
 -- The wall is shown, and the room stays as it was; or it refuses to.
 abbrev pub shown_page : List ℕ → Outcome
@@ -80,15 +81,16 @@ pub record TellsOpening {S : Type 0} (since : ℕ) (old : Standing S) (outcome :
   pub same : new ≡ old
   pub told : outcome ≡ told_line (opening_line old.opened since)
 
--- An act or a question is called; a post that is refused makes nothing.
+-- An act or a question is called, and what is told of it is true; a post that is refused makes nothing.
 abbrev pub ServesActCall : {S : Type 0} → Ghosts S → Standing S → Result ActCall Refusal → Outcome → Standing S → Type 0
 ServesActCall g old (Ok call) outcome new = (acts : Bool) × AnswersActCall g call.caller call.moment call.text old acts outcome.reply new × IsOutcome acts outcome
+    × TellsTextTrue call.text outcome.reply old new
 ServesActCall g old (Err refusal) outcome new = (outcome ≡ refused_with refusal) × (new ≡ old)
 
--- So is a load.
+-- So is a load, which leaves the link, the spacecraft and the mirror.
 abbrev pub ServesLoadCall : {S : Type 0} → Ghosts S → Standing S → LoadKind → Result LoadCall Refusal → Outcome → Standing S → Type 0
 ServesLoadCall g old kind (Ok call) outcome new =
-    (acts : Bool) × AnswersLoadCall g call.caller kind call.moment call.name call.csv old acts outcome.reply new × IsOutcome acts outcome
+    (acts : Bool) × AnswersLoadCall g call.caller kind call.moment call.name call.csv old acts outcome.reply new × IsOutcome acts outcome × LeavesLink old new
 ServesLoadCall g old kind (Err refusal) outcome new = (outcome ≡ refused_with refusal) × (new ≡ old)
 
 -- Memory was refused as a body was read.

@@ -1,16 +1,18 @@
 //! One exchange: a request is read, served, and answered.
-ghost use Rattle.std.specs.Prelude.{◌≡◌, IfErr, IfOk, Option};
+ghost use Rattle.std.specs.Prelude.{◌≡◌, true, IfErr, IfOk, List, Option};
 ghost use Rattle.std.specs.String.{string_bytes};
 ghost use Rattle.tc_types.specs.Counts.{counts_of};
 ghost use Rattle.tc_world.specs.EitherLink.{either};
 ghost use Rattle.tc_desk.specs.Promise.{KeepsPromise};
-ghost use Rattle.tc_room.specs.Joined.{desk_in};
+ghost use Rattle.tc_store.specs.Ledgers.{KeptAnswer};
+ghost use Rattle.tc_room.specs.Joined.{HoldsBook, desk_in};
+ghost use Rattle.tc_room.specs.declared.callers.Caller.{Caller};
 ghost use Rattle.tc_desk.specs.Replies.{Reply};
 ghost use Rattle.tc_front.specs.Front.{Asked};
 ghost use Rattle.tc_front.specs.Write.{seen};
 ghost use Rattle.tc_api.specs.Exchange.{AreFresh, Exchanges, IsUntold, Responds, TellsEnd, response_by};
-ghost use Rattle.tc_api.specs.Kept.{KeepsTables, ServesOne};
-ghost use Rattle.tc_api.specs.Serving.{HasText, Tells, outcome_of, page_of};
+ghost use Rattle.tc_api.specs.Kept.{Called, IsDoneOnce, KeepsTables, ServesOne};
+ghost use Rattle.tc_api.specs.Serving.{HasText, Outcome, Tells, outcome_of, page_of};
 
 use crate::endings::Ending;
 use crate::responses::{page_response, response};
@@ -106,8 +108,12 @@ pub fn serve_one<R: Read, W: Write, S: Alter + Drop>(
     ensures promise { KeepsPromise either (desk_in room.new) }
     // the tables hold the book, or the database failed at what was asked
     ensures kept { KeepsTables S.Store room.old room.new }
-    // one step of a list of exchanges (`laws`)
+    // one step of a list of exchanges (`ServesAll`)
     ensures step { (read : Option Asked) × ServesOne S.Store room.old read room.new }
+    // What was called and accepted is done once: whatever exchanges and openings come then, what the same caller calls under this number again is answered with this
+    // response, and nothing is done.
+    ensures once { (caller : Caller) (replies : List KeptAnswer) (first : Outcome) → HoldsBook S.Store room.old replies
+        → Called S.Store caller room.old first room.new → first.stands ≡ true → IsDoneOnce S.Store caller first room.new }
 {
     let done = exchange(alloc, door, since, reader, writer, room);
     // read for the proof alone: the promise is kept

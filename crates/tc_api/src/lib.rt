@@ -3,13 +3,14 @@
 
 mod acts;
 mod bodies;
+mod each;
 mod endings;
 mod exchange;
-pub mod laws;
 mod loads;
 mod openings;
 mod responses;
 mod serving;
 mod walls;
 
+pub use each::{Traffic, serve_each};
 pub use exchange::serve_one;

@@ -12,11 +12,13 @@ use tc_api::serve_one;
 use tc_closed::{Answered, ScriptFault, Watch, put, status_of};
 use tc_front::Door;
 use tc_host::{HostWatch, open_desk, refusal_of, text_at};
-use tc_posts::{Client, NumberedLine, Told, Untellable, numbered_lines, send_script};
+use tc_posts::{
+    Client, NumberedLine, Told, Untellable, left_out_note, numbered_lines, send_script, used_note,
+};
 use tc_room::Room;
 use tc_run::{Opening, exchange, last_moment, latest_moment, open_told};
 use tc_types::{Counted, Moment, Refusal};
-use tc_words::Telling;
+use tc_words::{Numbers, Telling};
 
 /// How many connections of other programs are let go at most before a program's own comes.
 const MOST_STRANGERS: u32 = 1_000;
@@ -127,10 +129,24 @@ struct HostClient<'rt, 'server, 'room, 'watch, 'script, 'writer, S: Alter + Drop
     rt: &'rt HostRuntime,
     server: &'server Server,
     room: &'room mut Room<S>,
+    /// The name of the script.
+    script: &'script str,
     watch: &'watch HostWatch<'script>,
     writer: &'writer mut Counted<W>,
-    /// When the last move was before the last request, if there was one.
+    /// When the last move was before the next line, if there was one.
     last: Option<Moment>,
+}
+
+impl<S: Alter + Drop, W: Write> HostClient<'_, '_, '_, '_, '_, '_, S, W> {
+    /// Says that lines are left out of what a line was answered, if any are.
+    fn say_left_out(&self, place: usize, more: u64) -> Result<(), ServiceFault> {
+        if more > 0 {
+            let note = left_out_note(self.rt.alloc(), self.script, place, more)?;
+            let note = note.as_str();
+            let _ = eprintln!(self.rt; "{note}");
+        }
+        Ok(())
+    }
 }
 
 impl<S: Alter + Drop, W: Write> Client for HostClient<'_, '_, '_, '_, '_, '_, S, W> {
@@ -144,12 +160,23 @@ impl<S: Alter + Drop, W: Write> Client for HostClient<'_, '_, '_, '_, '_, '_, S,
     ghost joined = { λ _ _ _ _ _ _ _. tt };
 
     fn send(&mut self, request: &[u8]) -> Result<Vec<u8>, ServiceFault> {
-        self.last = last_moment(self.room);
         response_to(self.rt, self.server, self.room, request)
     }
 
+    fn say_used(&mut self, used: &[u64]) -> Result<(), ServiceFault> {
+        let note = used_note(self.rt.alloc(), used)?;
+        let note = note.as_str();
+        let _ = eprintln!(self.rt; "tcdesk: {note}");
+        Ok(())
+    }
+
     fn show_answer(&mut self, line: &NumberedLine<'_>, told: Told) -> Result<(), ServiceFault> {
-        let Told { text, refusal } = told;
+        let Told {
+            text,
+            refusal,
+            more,
+            last: _,
+        } = told;
         let shown = exchange(self.rt.alloc(), self.watch.echoes(), line.line, text)?;
         put(self.writer, &shown)?;
         self.watch.answered(&Answered {
@@ -158,7 +185,8 @@ impl<S: Alter + Drop, W: Write> Client for HostClient<'_, '_, '_, '_, '_, '_, S,
             refusal: refusal_of(refusal),
             last: self.last,
         });
-        Ok(())
+        self.last = last_moment(self.room);
+        self.say_left_out(line.place, more)
     }
 
     fn show_places(&mut self, told: Told) -> Result<(), ServiceFault> {
@@ -173,25 +201,43 @@ impl<S: Alter + Drop, W: Write> Client for HostClient<'_, '_, '_, '_, '_, '_, S,
     }
 }
 
+/// A script that is sent, and what is said of it.
+#[derive(Clone, Copy)]
+struct Script<'script, 'lines, 'watch> {
+    /// Its name.
+    name: &'script str,
+    lines: &'lines [NumberedLine<'script>],
+    /// Whether nothing is sent if a number of a line was used before.
+    only_new: bool,
+    watch: &'watch HostWatch<'script>,
+}
+
 /// Sends the lines, and at the end the question how many requests stand where, which has no number.
 fn send_all<S: Alter + Drop, W: Write>(
     rt: &HostRuntime,
     room: &mut Room<S>,
     since: Moment,
-    lines: &[NumberedLine<'_>],
-    watch: &HostWatch<'_>,
+    script: &Script<'_, '_, '_>,
     writer: &mut Counted<W>,
 ) -> Result<u8, ServiceFault> {
     let server = listen(rt, since)?;
+    let last = last_moment(room);
     let mut client = HostClient {
         rt,
         server: &server,
         room,
-        watch,
+        script: script.name,
+        watch: script.watch,
         writer,
-        last: None,
+        last,
     };
-    let refused = send_script(rt.alloc(), &mut client, server.port, lines)?;
+    let refused = send_script(
+        rt.alloc(),
+        &mut client,
+        server.port,
+        script.lines,
+        script.only_new,
+    )?;
     Ok(status_of(refused))
 }
 
@@ -204,19 +250,19 @@ fn tell_new_link(rt: &HostRuntime, telling: Telling, since: Moment, stood: usize
 }
 
 /// Sends the lines of a script to the desk that a file keeps, opened at a moment, over HTTP: writes the moves that the opening made, the lines
-/// of each response, and at the end those of the places. The first line that is sent has this number, and each behind it the next, whatever the desk
-/// answers. With an echo each line stands before its answer, behind `> `. Gives the exit status: 1 where anything was refused, else 0. The script is read whole before the file is opened; the file is closed at
-/// the end, so that it alone holds everything.
-pub fn send_to_file(
-    rt: &HostRuntime,
-    script: &str,
+/// of each response, and at the end those of the places. The lines have these numbers, whatever the desk answers; which of them were used before is said first, and then nothing is sent if
+/// all have to be new. With an echo each line stands before its answer, after `> `. Gives the exit status: 1 if anything was refused or nothing was sent, else 0. The script is read whole before
+/// the file is opened; the file is closed at the end, so that it alone holds everything.
+pub fn send_to_file<'a>(
+    rt: &'a HostRuntime,
+    script: &'a str,
     file: &str,
     opening: &Opening,
-    first: u32,
+    numbers: Numbers,
     telling: Telling,
 ) -> Result<u8, ServiceFault> {
     let text = text_at(rt, script)?;
-    let lines = numbered_lines(rt.alloc(), &text, first)?;
+    let lines = numbered_lines(rt.alloc(), &text, numbers.first)?;
     let store = open_desk(rt, file)?;
     let mut writer = Counted::new(io::writer(rt));
     match open_told(rt.alloc(), store, opening, &mut writer) {
@@ -224,7 +270,13 @@ pub fn send_to_file(
             let watch = HostWatch::of_loop(rt, script, telling);
             watch.opened(opening.moment, latest_moment(&room));
             tell_new_link(rt, telling, opening.moment, room.opened());
-            let ended = send_all(rt, &mut room, opening.moment, &lines, &watch, &mut writer);
+            let script = Script {
+                name: script,
+                lines: &lines,
+                only_new: numbers.only_new,
+                watch: &watch,
+            };
+            let ended = send_all(rt, &mut room, opening.moment, &script, &mut writer);
             closed(room.into_connection(), ended)
         }
         Err(left) => closed(left.store, Err(ServiceFault::from(left.fault))),

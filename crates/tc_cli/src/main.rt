@@ -42,12 +42,12 @@ use std::process::ExitCode;
 use std::{env, io};
 use tc_closed::{PathFault, ScriptFault, write_check, write_script_check};
 use tc_host::{
-    HostPaths, HostTexts, HostWatch, Unusable, backup, of_tables, open_desk, open_script,
-    print_report, print_wall, text_at, text_of,
+    HostPaths, HostTexts, HostWatch, Unusable, backup, of_tables, open_desk, print_report,
+    print_wall, text_at, text_of,
 };
 use tc_run::{Opening, run_kept, run_script};
 use tc_types::{Counted, LoadKind, Moment};
-use tc_words::{Layer, Program, Service, Telling, UsageFault, carry_out, read_words};
+use tc_words::{Layer, Numbers, Program, Service, Telling, UsageFault, carry_out, read_words};
 use tc_world::Config;
 
 /// The words where none are given.
@@ -162,7 +162,7 @@ impl Program for HostProgram<'_> {
         script: &str,
         config: Config,
         moment: Moment,
-        first: u32,
+        numbers: Numbers,
         telling: Telling,
     ) -> u8 {
         loop_in(
@@ -170,7 +170,7 @@ impl Program for HostProgram<'_> {
             script,
             database,
             &Opening { config, moment },
-            first,
+            numbers,
             telling,
         )
     }
@@ -188,11 +188,11 @@ fn loop_in(
     script: &str,
     database: &str,
     opening: &Opening,
-    first: u32,
+    numbers: Numbers,
     telling: Telling,
 ) -> u8 {
     tell_waiting(rt, script);
-    let ended = send_to_file(rt, script, database, opening, first, telling);
+    let ended = send_to_file(rt, script, database, opening, numbers, telling);
     service_status(rt, ended, script, database)
 }
 
@@ -264,12 +264,8 @@ fn run_at(
 ) -> Result<u8, ScriptFault> {
     let watch = HostWatch::new(rt, path, telling);
     let mut writer = Counted::new(io::writer(rt));
-    if path == "-" {
-        let mut reader = Counted::new(rt.reader());
-        return run_script(rt.alloc(), config, &mut reader, paths, &watch, &mut writer);
-    }
-    let mut reader = Counted::new(open_script(rt, path)?);
-    run_script(rt.alloc(), config, &mut reader, paths, &watch, &mut writer)
+    let text = text_at(rt, path)?;
+    run_script(rt.alloc(), config, &text, paths, &watch, &mut writer)
 }
 
 /// Runs a script on the desk that a file keeps, opened at a moment. The script is read whole before the file is opened; the file is closed at

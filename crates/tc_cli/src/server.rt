@@ -1,4 +1,5 @@
 //! The loop of a server: connections are read beside each other, and their requests are served one at a time, in the order in which they became whole.
+ghost use Rattle.std.specs.Prelude.{None};
 ghost use Rattle.tc_front.specs.Front.{Asked, IsDecided};
 
 use crate::peers::{Peer, Stage};
@@ -9,10 +10,10 @@ use sqlite::Alter;
 use std::alloc::Global;
 use std::io::{self, Read};
 use std::time::{Duration, Instant};
-use tc_api::serve_one;
-use tc_front::{Arriving, Door, Queue, Routes, Whole};
+use tc_api::{Traffic, serve_each};
+use tc_front::{Arriving, Door, Queue, Routes};
 use tc_room::Room;
-use tc_types::{Counted, Moment, Refusal};
+use tc_types::{Moment, Refusal};
 use tc_words::Service;
 
 /// How many connections are open at most. Each holds a request, of 73,728 bytes at most and up to 4,095 that came with its last, or an answer, of 450,000 bytes at
@@ -53,16 +54,18 @@ pub(crate) enum End {
 pub(crate) struct Server<'a> {
     rt: &'a HostRuntime,
     service: &'a Service<'a>,
-    /// When the desk was opened.
-    since: Moment,
-    door: Door,
     routes: Routes,
     poll: Poll,
+    /// What the last wait gave; taken for as long as it is gone through.
+    events: Option<Events>,
+    /// When the last wait ended.
+    now: Instant,
     listener: TcpListener,
     /// The connections, each at its place.
     peers: Vec<Option<Peer>>,
-    /// The requests that are whole.
+    /// The requests that are whole, and the place of the connection that the last one came by.
     queue: Queue,
+    serving: usize,
     /// How many connections were taken.
     taken: u32,
     /// How many tries failed to take the next, and when the last did.
@@ -88,12 +91,11 @@ fn put_peer(peers: &mut [Option<Peer>], place: usize, peer: Option<Peer>) {
 }
 
 impl<'a> Server<'a> {
-    /// A server at this port, which is listened at, of a desk that is opened at this moment.
+    /// A server at this port, which is listened at.
     pub(crate) fn new(
         rt: &'a HostRuntime,
         mut listener: TcpListener,
         service: &'a Service<'a>,
-        since: Moment,
     ) -> io::Result<Server<'a>> {
         let alloc = rt.alloc();
         let poll = Poll::new(rt)?;
@@ -110,13 +112,14 @@ impl<'a> Server<'a> {
         Ok(Server {
             rt,
             service,
-            since,
-            door: Door::new(alloc, service.port, service.host)?,
             routes: Routes::new(alloc)?,
             poll,
+            events: Some(Events::with_capacity(alloc, MOST_EVENTS)?),
+            now: Instant::now(rt)?,
             listener,
             peers,
             queue: Queue::new(alloc),
+            serving: 0,
             taken: 0,
             tries: 0,
             failed: None,
@@ -125,27 +128,37 @@ impl<'a> Server<'a> {
     }
 
     /// Serves until it ends, and says why.
-    pub(crate) fn serve<S: Alter + Drop>(&mut self, room: &mut Room<S>) -> io::Result<End> {
-        let mut events = Events::with_capacity(self.rt.alloc(), MOST_EVENTS)?;
-        for _ in 0..u64::MAX {
-            let before = Instant::now(self.rt)?;
-            self.take_all(before);
-            if let Some((end, _)) = self.ending
-                && self.is_idle()
-            {
-                return Ok(end);
-            }
-            let patience = self.patience(before);
-            self.poll.poll(&mut events, patience)?;
-            let now = Instant::now(self.rt)?;
-            for event in events.iter() {
-                self.go_on(event.token(), now);
-            }
-            // only a peer whose time was over before the wait is let go: what came while the server stood still is read first
-            self.give_up(before);
-            self.serve_all(room, now);
+    pub(crate) fn serve<S: Alter + Drop>(
+        &mut self,
+        door: &Door,
+        since: Moment,
+        room: &mut Room<S>,
+    ) -> End {
+        let alloc = self.rt.alloc();
+        serve_each(alloc, door, since, self, room);
+        self.ending.map_or(End::Port, |(end, _)| end)
+    }
+
+    /// Takes connections, waits for what they send, and reads on. Says whether it goes on: it does not once it has ended and no connection is open.
+    fn wait(&mut self) -> io::Result<bool> {
+        let before = Instant::now(self.rt)?;
+        self.take_all(before);
+        if self.ending.is_some() && self.is_idle() {
+            return Ok(false);
         }
-        Ok(End::Count)
+        let patience = self.patience(before);
+        let Some(mut events) = self.events.take() else {
+            return Ok(false);
+        };
+        self.poll.poll(&mut events, patience)?;
+        self.now = Instant::now(self.rt)?;
+        for event in events.iter() {
+            self.go_on(event.token(), self.now);
+        }
+        self.events = Some(events);
+        // only a peer whose time was over before the wait is let go: what came while the server stood still is read first
+        self.give_up(before);
+        Ok(true)
     }
 
     /// Whether no connection is open.
@@ -308,45 +321,18 @@ impl<'a> Server<'a> {
         }
     }
 
-    /// Serves all requests that are whole, one after the other.
-    fn serve_all<S: Alter + Drop>(&mut self, room: &mut Room<S>, now: Instant) {
-        for _ in 0..MOST_PEERS {
-            let Some(whole) = self.queue.pop() else {
-                return;
-            };
-            self.serve_whole(room, whole, now);
-            if self.service.ends_with_desk() && room.stopped() {
-                self.end(End::Stopped, now);
-            }
-        }
-    }
-
-    /// Serves a request that is whole, and begins to send its response.
-    fn serve_whole<S: Alter + Drop>(&mut self, room: &mut Room<S>, whole: Whole, now: Instant) {
-        let alloc = self.rt.alloc();
-        let mut reader = Counted::new(whole.text.as_slice());
-        let mut writer = Counted::new(Vec::new(alloc));
-        let served = serve_one(
-            alloc,
-            &self.door,
-            self.since,
-            &mut reader,
-            &mut writer,
-            room,
-        );
-        let Some(peer) = peer_in(&mut self.peers, whole.peer) else {
-            return;
+    /// Sends what the request that came last is answered, or tells why there is no whole response. Says whether its connection stays.
+    fn send(&mut self, served: Result<(), Refusal>, response: Vec<u8>) -> bool {
+        let (place, now) = (self.serving, self.now);
+        let Some(peer) = peer_in(&mut self.peers, place) else {
+            return true;
         };
-        let stays = match served {
+        match served {
             Ok(()) => {
-                let response = writer.into_inner();
                 peer.enter(Stage::Answering { response, sent: 0 }, now);
-                self.give_out(whole.peer, now)
+                self.give_out(place, now)
             }
-            Err(refusal) => self.tell_end(whole.peer, Err(refusal)),
-        };
-        if !stays {
-            put_peer(&mut self.peers, whole.peer, None);
+            Err(refusal) => self.tell_end(place, Err(refusal)),
         }
     }
 
@@ -396,5 +382,45 @@ impl<'a> Server<'a> {
             }
         };
         false
+    }
+}
+
+impl Traffic for Server<'_> {
+    ghost came = { λ _. None };
+
+    ghost told = { λ _. None };
+
+    /// The request that became whole first, once one is. None once it has ended and no connection is open, and if the port can no longer be waited for.
+    fn next(&mut self) -> Option<Vec<u8>> {
+        for _ in 0..u64::MAX {
+            if let Some(whole) = self.queue.pop() {
+                self.serving = whole.peer;
+                return Some(whole.text);
+            }
+            match self.wait() {
+                Ok(true) => {}
+                Ok(false) => return None,
+                Err(_) => {
+                    self.ending = Some((End::Port, self.now));
+                    return None;
+                }
+            }
+        }
+        None
+    }
+
+    fn answer(
+        &mut self,
+        _text: &[u8],
+        served: Result<(), Refusal>,
+        response: Vec<u8>,
+        stopped: bool,
+    ) {
+        if !self.send(served, response) {
+            put_peer(&mut self.peers, self.serving, None);
+        }
+        if self.service.ends_with_desk() && stopped {
+            self.end(End::Stopped, self.now);
+        }
     }
 }

@@ -1,4 +1,7 @@
 //! A desk that is kept in a file, served over HTTP (RFC 9112) on this machine alone.
+ghost use Rattle.std.specs.Prelude.{◌≡◌};
+ghost use Rattle.tc_cli.specs.Closing.{after_closing};
+
 use crate::server::{End, Server};
 use mio::net::TcpListener;
 use sqlite::Connection;
@@ -8,9 +11,10 @@ use sqlite_store::FileStore;
 use std::io;
 use std::net::{Ipv4Addr, SocketAddr};
 use tc_closed::ScriptFault;
+use tc_front::Door;
 use tc_host::{Because, Unusable, of_tables, open_desk, opening_fault, tell_opening};
 use tc_run::{Opening, latest_moment, open_told};
-use tc_types::{Counted, Moment};
+use tc_types::Counted;
 use tc_words::Service;
 
 /// Why a desk is not served, or no longer.
@@ -38,17 +42,29 @@ impl From<Unusable> for ServiceFault {
     }
 }
 
+/// Returns what a service that ended so comes to once its database was closed, or why that failed. A desk that had stopped has stopped; any other
+/// that was not closed cannot be used, whatever it came to before.
+fn after_closing<T: Drop>(
+    failed: Option<Unusable>,
+    ended: Result<T, ServiceFault>,
+) -> Result<T, ServiceFault>
+    ensures { result ≡ after_closing failed ended }
+{
+    match (failed, ended) {
+        (Some(why), Err(ServiceFault::Stopped(_))) => Err(ServiceFault::Stopped(why.because)),
+        (Some(why), _) => Err(ServiceFault::Desk(why)),
+        (None, ended) => ended,
+    }
+}
+
 /// Closes the database of a desk that is served no longer, so that the file alone holds everything.
 pub(crate) fn closed<T: Drop>(
     store: Connection<FileStore<FileFrom<Wary>>>,
     ended: Result<T, ServiceFault>,
 ) -> Result<T, ServiceFault> {
-    match (store.close(), ended) {
-        (Err(error), Err(ServiceFault::Stopped(_))) => {
-            Err(ServiceFault::Stopped(of_tables(error).because))
-        }
-        (Err(error), _) => Err(ServiceFault::from(of_tables(error))),
-        (Ok(_), ended) => ended,
+    match store.close() {
+        Ok(_) => after_closing(None, ended),
+        Err(error) => after_closing(Some(of_tables(error)), ended),
     }
 }
 
@@ -73,6 +89,7 @@ fn ended(rt: &HostRuntime, service: &Service<'_>, end: End) -> Result<(), Servic
 fn serve_by(
     rt: &HostRuntime,
     mut server: Server<'_>,
+    door: &Door,
     file: &str,
     opening: &Opening,
     service: &Service<'_>,
@@ -84,11 +101,8 @@ fn serve_by(
             let port = service.port;
             tell_opening(rt, opening.moment, latest_moment(&room));
             let _ = eprintln!(rt; "tcdesk: listening on 127.0.0.1:{port}");
-            let served = match server.serve(&mut room) {
-                Ok(end) => ended(rt, service, end),
-                Err(_) => Err(ServiceFault::Port(port)),
-            };
-            closed(room.into_connection(), served)
+            let end = server.serve(door, opening.moment, &mut room);
+            closed(room.into_connection(), ended(rt, service, end))
         }
         Err(left) => closed(left.store, Err(ServiceFault::from(left.fault))),
     }
@@ -98,11 +112,10 @@ fn serve_by(
 fn listening<'a>(
     rt: &'a HostRuntime,
     service: &'a Service<'a>,
-    since: Moment,
 ) -> Result<Server<'a>, ServiceFault> {
     let address = SocketAddr::from((Ipv4Addr::LOCALHOST, service.port));
     let listener = TcpListener::bind(rt, address).map_err(|_| ServiceFault::Port(service.port))?;
-    Server::new(rt, listener, service, since).map_err(|error| match error.kind() {
+    Server::new(rt, listener, service).map_err(|error| match error.kind() {
         io::ErrorKind::OutOfMemory => ServiceFault::from(ScriptFault::Memory),
         io::ErrorKind::PermissionDenied => ServiceFault::Input,
         _ => ServiceFault::Port(service.port),
@@ -118,11 +131,17 @@ pub fn serve(
     opening: &Opening,
     service: &Service<'_>,
 ) -> Result<(), ServiceFault> {
-    match listening(rt, service, opening.moment) {
-        Ok(server) => serve_by(rt, server, file, opening, service),
-        Err(fault) => {
+    let listens = listening(rt, service);
+    let door = Door::new(rt.alloc(), service.port, service.host);
+    match (listens, door) {
+        (Ok(server), Ok(door)) => serve_by(rt, server, &door, file, opening, service),
+        (Err(fault), _) => {
             opening_fault(rt, file)?;
             Err(fault)
+        }
+        (_, Err(_)) => {
+            opening_fault(rt, file)?;
+            Err(ServiceFault::from(ScriptFault::Memory))
         }
     }
 }

@@ -13,6 +13,7 @@ mod memory;
 mod parts;
 mod paths;
 mod reporting;
+mod standing;
 mod telling;
 mod unserved;
 

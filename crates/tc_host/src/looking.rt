@@ -2,6 +2,7 @@
 
 use crate::because::Because;
 use crate::reporting::{Kept, find, forget_log, has_journal};
+use crate::standing::{Found, Standing, what_stands, why_no_file};
 use sqlite::{Alter, Connection};
 use sqlite_disk::Wary;
 use std::alloc::Global;
@@ -197,24 +198,20 @@ fn why_unkept(rt: &HostRuntime, file: &str) -> Option<Because> {
     }
 }
 
-/// Why what stands at a path is no file of a desk, by its kind and its length.
-fn why_no_file(found: &fs::Metadata) -> Option<Because> {
-    if found.is_dir() {
-        Some(Because::Folder)
-    } else if !found.is_file() {
-        Some(Because::Special)
-    } else if found.len() == 0 {
-        Some(Because::Empty)
-    } else {
-        None
-    }
+/// What stands where this was found.
+pub(crate) fn standing_of(found: &fs::Metadata) -> Standing {
+    what_stands(Found {
+        is_folder: found.is_dir(),
+        is_file: found.is_file(),
+        bytes: found.len(),
+    })
 }
 
 /// Why the desk that a file keeps cannot be read.
 pub fn why_no_desk(rt: &HostRuntime, file: &str) -> Option<Because> {
     match fs::metadata(rt, file) {
         Err(error) => Because::of_system(error.kind()),
-        Ok(found) => match why_no_file(&found) {
+        Ok(found) => match why_no_file(standing_of(&found)) {
             Some(because) => Some(because),
             None => why_unkept(rt, file),
         },
@@ -225,7 +222,7 @@ pub fn why_no_desk(rt: &HostRuntime, file: &str) -> Option<Because> {
 pub fn why_uncopied(rt: &HostRuntime, file: &str) -> Option<Because> {
     match fs::metadata(rt, file) {
         Err(error) => Because::of_system(error.kind()),
-        Ok(found) => why_no_file(&found).or(why_unreadable(rt, file)),
+        Ok(found) => why_no_file(standing_of(&found)).or(why_unreadable(rt, file)),
     }
 }
 
@@ -233,7 +230,7 @@ pub fn why_uncopied(rt: &HostRuntime, file: &str) -> Option<Because> {
 pub fn why_no_opening(rt: &HostRuntime, file: &str) -> Option<Because> {
     match fs::metadata(rt, file) {
         Err(error) if error.kind() == io::ErrorKind::NotFound => why_unmade(rt, file),
-        Ok(found) if found.is_file() && found.len() == 0 => why_unwritten(rt, file),
+        Ok(found) if matches!(standing_of(&found), Standing::Empty) => why_unwritten(rt, file),
         _ => why_no_desk(rt, file),
     }
 }

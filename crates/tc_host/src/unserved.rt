@@ -1,7 +1,9 @@
 //! What the opening of a desk that is kept in a file would be refused for, where nothing is to be written: its port is in use.
 
 use crate::files::open_database;
+use crate::looking::standing_of;
 use crate::reporting::{find, forget_log, log_path, open_kept};
+use crate::standing::Standing;
 use sqlite::{Alter, Connection};
 use sqlite_disk::Wary;
 use sqlite_schema::schema::Schema;
@@ -61,7 +63,7 @@ fn judge_path(rt: &HostRuntime, file: &str) -> Result<(), ScriptFault> {
 pub fn opening_fault(rt: &HostRuntime, file: &str) -> Result<(), ScriptFault> {
     match fs::metadata(rt, file) {
         Err(_) => judge_path(rt, file),
-        Ok(found) if found.is_file() && found.len() == 0 => Ok(()),
+        Ok(found) if matches!(standing_of(&found), Standing::Empty) => Ok(()),
         Ok(_) => {
             let kept = find(rt, file)?;
             let store = open_kept(rt, &kept)?;

@@ -1,3 +1,4 @@
 mod PostLemmas
 mod ToldLemmas
+mod CompletingLemmas
 mod SendLemmas

@@ -11,7 +11,7 @@ use Rattle.serde_json.specs.Data.{Data}
 use Rattle.serde_json.specs.Read.{read}
 use Rattle.tc_posts.specs.declared.told.Untellable.{Untellable}
 use Rattle.tc_posts.specs.declared.told.Untellable.TheVariants.{NoResponse, Memory}
-use Rattle.tc_posts.specs.Told.{IsBody, IsTold, IsUnsaid, IsUntold, Says}
+use Rattle.tc_posts.specs.Told.{Answer, IsBody, IsTold, IsUnsaid, IsUntold, Says}
 
 -- what an `ok_or` found, and why it found nothing
 pub found_some : {X E : Type 0} (o : Option X) (r : Result X E) (x : X) → o ≡ result_ok r → r ≡ Ok x → o ≡ Some x
@@ -64,16 +64,16 @@ no_text response end bytes (Err e) r X behind finds read is =
 
 -- a body that says nothing
 pub nothing_said : {X : Type 0} (r : Result X Untellable) (body : List ℕ) (value : Data) → read body ≡ Some value → IfErr r (IsUnsaid value) → r ≡ Err NoResponse
-    → (text : List ℕ) (refusal : ℕ) → ¬ (Says body text refusal)
-nothing_said {X} r body value is unsaid none text refusal (other, also, told) =
+    → (answer : Answer) → ¬ (Says body answer)
+nothing_said {X} r body value is unsaid none answer (other, also, told) =
     let nothing : IsUnsaid value NoResponse = subst (λ (r : Result X Untellable). IfErr r (IsUnsaid value)) none unsaid in
     let same : other ≡ value = cc in
-    nothing text refusal (subst (λ (v : Data). IsTold v text refusal) same told)
+    nothing answer (subst (λ (v : Data). IsTold v answer) same told)
 
 -- a response whose body is not told
 pub not_told : {X : Type 0} (r : Result X Untellable) (response body : List ℕ) → IsBody response body → IsUtf8 body
-    → (r ≡ Err NoResponse → (text : List ℕ) (refusal : ℕ) → ¬ (Says body text refusal)) → IfErr r (IsUntold response)
+    → (r ≡ Err NoResponse → (answer : Answer) → ¬ (Says body answer)) → IfErr r (IsUntold response)
 not_told (Ok x) response body is utf8 none = tt
 not_told (Err NoResponse) response body is utf8 none =
-    λ text refusal tells. none refl text refusal (subst (λ (b : List ℕ). Says b text refusal) (one_body response tells.body body tells.found is) tells.said)
+    λ answer tells. none refl answer (subst (λ (b : List ℕ). Says b answer) (one_body response tells.body body tells.found is) tells.said)
 not_told (Err Memory) response body is utf8 none = (body, is, utf8)

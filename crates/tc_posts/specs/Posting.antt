@@ -79,3 +79,12 @@ post_bytes port post call = post_head port (length (body_of post call)) ++ body_
 -- the request that asks for the places
 abbrev pub places_bytes : ℕ → List ℕ
 places_bytes port = (codes "GET /places HTTP/1.1" ++ line_end) ++ host_line port ++ (line_end ++ line_end)
+
+-- the request that asks for the moves after this one
+abbrev pub moves_bytes : ℕ → ℕ → List ℕ
+moves_bytes port after = (codes "GET /moves/" ++ decimal after ++ codes " HTTP/1.1" ++ line_end) ++ host_line port ++ (line_end ++ line_end)
+
+-- the person of a line posts an act of no bytes, at moment 0
+abbrev pub AsksNothing : List ℕ → Posting → Type 0
+AsksNothing line asked =
+    (post : Posting) × Posts line post × (string_bytes asked.act ≡ []) × (string_bytes asked.by ≡ string_bytes post.by) × (asked.moment ≡ Number 0)

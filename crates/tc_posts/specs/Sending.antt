@@ -1,32 +1,17 @@
 -- How the lines of a script are sent to a desk over HTTP, and what is shown of what it answers.
-use Rattle.std.specs.Prelude.{◌≡◌, ◌==◌, ◌||◌, ℕ, Bool, false, not, List, [], ◌∷◌, ◌++◌}
+use Rattle.std.specs.Prelude.{◌≡◌, ℕ, Bool, true, false, List, [], ◌∷◌, ◌++◌}
 use Rattle.tc_posts.specs.declared.posting.Posting.{Posting}
+use Rattle.tc_posts.specs.Completing.{Completes}
 use Rattle.tc_posts.specs.Posting.{Posts, places_bytes, post_bytes}
-use Rattle.tc_posts.specs.Told.{Tells}
+use Rattle.tc_posts.specs.Steps.{Line, Step, answered, placed, refuses, said, sent}
+use Rattle.tc_posts.specs.Told.{Answer, Tells}
+use Rattle.tc_posts.specs.Used.{AreAsked}
 
--- a line, the number of its call, and that of the line in its script
-abbrev pub Line : Type 0
-Line = List ℕ × ℕ × ℕ
-
--- What a client does: a request was sent, and this came back until its end; the text and the refusal that a line was answered were shown, or
--- those of the last question. A refusal is a number, and 0 where there is none.
-pub data Step : Type 0 where
-  sent : (request : List ℕ) (response : List ℕ) → Step
-  answered : (line : Line) (text : List ℕ) (refusal : ℕ) → Step
-  placed : (text : List ℕ) (refusal : ℕ) → Step
-
--- something that is shown in these steps is a refusal
-abbrev pub refuses : List Step → Bool
-refuses [] = false
-refuses (sent request response ∷ steps) = refuses steps
-refuses (answered line text refusal ∷ steps) = not (refusal == 0) || refuses steps
-refuses (placed text refusal ∷ steps) = not (refusal == 0) || refuses steps
-
--- A line is posted to this port under its number, and what the response tells is shown.
+-- A line is posted to this port under its number, and what the response tells is shown once it is completed.
 abbrev pub IsSent : ℕ → Line → List Step → Type 0
-IsSent port (line, number, place) steps = (post : Posting) × (response : List ℕ) × (text : List ℕ) × (refusal : ℕ)
-    × Posts line post × Tells response text refusal
-    × (steps ≡ sent (post_bytes port post number) response ∷ answered (line, number, place) text refusal ∷ [])
+IsSent port (line, number, place) steps = (post : Posting) × (response : List ℕ) × (first last : Answer) × (asked : List Step)
+    × Posts line post × Tells response first × Completes port first asked last
+    × (steps ≡ sent (post_bytes port post number) response ∷ asked ++ answered (line, number, place) last ∷ [])
 
 -- Each of these lines is, one after the other, whatever the others are answered.
 abbrev pub AreSent : ℕ → List Line → List Step → Type 0
@@ -36,9 +21,22 @@ AreSent port (line ∷ lines) steps = (first : List Step) × (rest : List Step) 
 
 -- It is asked for the places, and what the response tells is shown.
 abbrev pub AsksPlaces : ℕ → List Step → Type 0
-AsksPlaces port steps = (response : List ℕ) × (text : List ℕ) × (refusal : ℕ) × Tells response text refusal
-    × (steps ≡ sent (places_bytes port) response ∷ placed text refusal ∷ [])
+AsksPlaces port steps = (response : List ℕ) × (answer : Answer) × Tells response answer
+    × (steps ≡ sent (places_bytes port) response ∷ placed answer ∷ [])
 
--- a whole loop: each line is sent, and then it is asked for the places
-abbrev pub IsLoop : ℕ → List Line → List Step → Type 0
-IsLoop port lines steps = (first : List Step) × (last : List Step) × (steps ≡ first ++ last) × AreSent port lines first × AsksPlaces port last
+-- Each line is sent, and then it is asked for the places. Says whether something that was shown is a refusal.
+abbrev pub SendsAll : ℕ → List Line → List Step → Bool → Type 0
+SendsAll port lines steps refused = (first : List Step) × (last : List Step) × (steps ≡ first ++ last) × AreSent port lines first × AsksPlaces port last
+    × (refused ≡ refuses steps)
+
+-- What is done where these numbers are used: it is said, if there are any; and then each line is sent, if there are none or they need not be new. Else none is, and
+-- the loop ends as if it were refused.
+abbrev pub Sends : Bool → ℕ → List Line → List ℕ → List Step → Bool → Type 0
+Sends only_new port lines [] steps refused = SendsAll port lines steps refused
+Sends true port lines (one ∷ others) steps refused = (steps ≡ said (one ∷ others) ∷ []) × (refused ≡ true)
+Sends false port lines (one ∷ others) steps refused = (rest : List Step) × (steps ≡ said (one ∷ others) ∷ rest) × SendsAll port lines rest refused
+
+-- a whole loop: it is asked which numbers are used before the first line is sent
+abbrev pub IsLoop : Bool → ℕ → List Line → List Step → Bool → Type 0
+IsLoop only_new port lines steps refused = (asked rest : List Step) × (used : List ℕ) × (steps ≡ asked ++ rest)
+    × AreAsked port lines asked used × Sends only_new port lines used rest refused

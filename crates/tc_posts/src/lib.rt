@@ -2,12 +2,16 @@
 //! shown of it.
 #![tactic(auto)]
 
+mod completing;
 mod numbered;
 mod posting;
 mod sending;
 mod told;
+mod used;
 
+pub use completing::left_out_note;
 pub use numbered::{NumberedLine, numbered_lines};
-pub use posting::{places_request, post_request};
+pub use posting::{empty_request, moves_request, places_request, post_request};
 pub use sending::{Client, send_script};
 pub use told::{Told, Untellable, read_told};
+pub use used::used_note;

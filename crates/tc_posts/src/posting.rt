@@ -1,10 +1,11 @@
 //! The requests that a script's lines are sent in (RFC 9112).
 ghost use Rattle.std.specs.Prelude.{◌≡◌, ◌++◌, ◌∷◌, [], IfOk, OnOk, codes};
+ghost use Rattle.std.specs.Fmt.{decimal};
 ghost use Rattle.std.specs.String.{string_bytes};
 ghost use Rattle.serde_json.specs.View.{view};
 ghost use Rattle.serde_json.specs.Written.{compact_text};
 ghost use Rattle.tc_posts.specs.declared.posting.Posting.{Posting};
-ghost use Rattle.tc_posts.specs.Posting.{Posts, SendsMoment, ascii, body_of, host_line, moment_data, places_bytes, post_bytes, post_data, post_head, sent};
+ghost use Rattle.tc_posts.specs.Posting.{AsksNothing, Posts, SendsMoment, ascii, body_of, host_line, moment_data, moves_bytes, places_bytes, post_bytes, post_data, post_head, sent};
 
 use serde_json::{Value, json};
 use std::alloc::{AllocError, Global};
@@ -197,4 +198,41 @@ pub fn places_request(alloc: Global, port: u16) -> Result<String, AllocError>
     request.push_str(host_line(alloc, port)?.as_str())?;
     request.push_str("\r\n\r\n")?;
     Ok(request)
+}
+
+/// The request line of the question for the moves after this one, without its end.
+fn moves_line(alloc: Global, after: u32) -> Result<String, AllocError>
+    ensures { IfOk result (λ line. string_bytes line ≡ codes "GET /moves/" ++ decimal after ++ codes " HTTP/1.1") }
+{
+    format!(in alloc; "GET /moves/{after} HTTP/1.1")
+}
+
+/// The request that asks a server of this machine at a port for the moves after this one. Fails where memory is refused.
+pub fn moves_request(alloc: Global, port: u16, after: u32) -> Result<String, AllocError>
+    ensures { IfOk result (λ request. string_bytes request ≡ moves_bytes port after) }
+{
+    let mut request = moves_line(alloc, after)?;
+    request.push_str("\r\n")?;
+    request.push_str(host_line(alloc, port)?.as_str())?;
+    request.push_str("\r\n\r\n")?;
+    Ok(request)
+}
+
+/// The request that posts an act of no bytes for the person of a line, under this number, to a server of this machine at a port. The desk refuses it, or
+/// answers what it answered before under this number. Fails where memory is refused.
+pub fn empty_request(
+    alloc: Global,
+    port: u16,
+    line: &[u8],
+    number: u64,
+) -> Result<String, AllocError>
+    ensures { IfOk result (λ request. (asked : Posting) × AsksNothing line.now asked × (string_bytes request ≡ post_bytes port asked number)) }
+{
+    let post = post_of(alloc, line)?;
+    let asked = Posting {
+        act: String::new(alloc),
+        by: post.by,
+        moment: PostedMoment::Number(0),
+    };
+    request_of(alloc, port, &asked, number)
 }

@@ -4,12 +4,14 @@ ghost use Rattle.std.specs.Str.{IsUtf8};
 ghost use Rattle.std.specs.String.{string_bytes};
 ghost use Rattle.serde_json.specs.Read.{read};
 ghost use Rattle.serde_json.specs.View.{items_view, view};
-ghost use Rattle.tc_posts.specs.Told.{IsBody, IsTold, IsUnsaid, IsUntold, Says, Tells, lines_in, lines_text, refusal_in};
+ghost use Rattle.tc_posts.specs.Told.{Answer, IsBody, IsTold, IsUnsaid, IsUntold, Says, Tells, TellsMove, answer_of, last_text, lines_in, lines_text, more_in, refusal_in};
 
 use bstr::ByteSlice;
 use serde_json::{Error, Value};
 use std::alloc::{AllocError, Global};
 use std::str;
+use tc_lines::cut;
+use tc_lines::read::readers::{is, number};
 use tc_report::add_line;
 
 /// What a response says.
@@ -19,6 +21,10 @@ pub struct Told {
     pub text: String,
     /// The number of what it is refused with; 0 where it is no refusal.
     pub refusal: u64,
+    /// How many lines of the reply are left out after these.
+    pub more: u64,
+    /// The number of the move that the last of these lines tells, if it tells one.
+    pub last: Option<u32>,
 }
 
 /// Why a response says nothing.
@@ -59,7 +65,7 @@ impl From<Error> for Untellable {
 }
 
 /// The body of a response, where it is a text.
-fn body_of(response: &[u8]) -> Option<&str>
+pub(crate) fn body_of(response: &[u8]) -> Option<&str>
     ensures some { IfSome result (λ body. IsBody response.now body.now × IsUtf8 body.now) }
     ensures none { IfNone result ((body : List ℕ) → IsBody response.now body → ¬ (IsUtf8 body)) }
 {
@@ -68,7 +74,7 @@ fn body_of(response: &[u8]) -> Option<&str>
 }
 
 /// These lines, each ended by LF.
-fn lines_text(alloc: Global, lines: &[Value]) -> Result<String, AllocError>
+pub(crate) fn lines_text(alloc: Global, lines: &[Value]) -> Result<String, AllocError>
     ensures { IfOk result (λ text. string_bytes text ≡ lines_text (map view lines.now)) }
 {
     let mut text = String::new(alloc);
@@ -86,39 +92,82 @@ fn refusal_in(value: &Value) -> Option<u64>
 }
 
 /// The lines that a body tells.
-fn lines_in(value: &Value) -> Option<&Vec<Value>>
+pub(crate) fn lines_in(value: &Value) -> Option<&Vec<Value>>
     ensures { option_map (λ lines. items_view lines.now.items) result ≡ lines_in (view value.now) }
 {
     value.get("lines").and_then(Value::as_array)
 }
 
+/// How many lines of the reply a body leaves out.
+fn more_in(value: &Value) -> Option<u64>
+    ensures { result ≡ more_in (view value.now) }
+{
+    value.get("more").and_then(Value::as_u64)
+}
+
+/// The text of the last of these lines.
+fn last_text(lines: &[Value]) -> &str
+    ensures { result.now ≡ last_text (map view lines.now) }
+{
+    match lines.last() {
+        Some(line) => line.as_str().unwrap_or(""),
+        None => "",
+    }
+}
+
+/// The number of the move that a line tells, if it tells one.
+fn move_of(line: &[u8]) -> Option<u32>
+    ensures { TellsMove line.now result }
+{
+    let (word, rest) = cut(line, b' ');
+    if !is(word, b"move") {
+        return None;
+    }
+    let (word, _) = cut(rest?, b' ');
+    number(word)
+}
+
+/// The number of the move that the last of these lines tells, if it tells one.
+pub(crate) fn last_move(lines: &[Value]) -> Option<u32>
+    ensures { TellsMove (last_text (map view lines.now)) result }
+{
+    move_of(last_text(lines).as_bytes())
+}
+
 /// What a body in JSON says.
 fn told_by(alloc: Global, value: &Value) -> Result<Told, Untellable>
-    ensures told { IfOk result (λ told. IsTold (view value.now) (string_bytes told.text) told.refusal) }
+    ensures told { IfOk result (λ told. IsTold (view value.now) (answer_of told)) }
     ensures untold { IfErr result (IsUnsaid (view value.now)) }
 {
     let refusal = refusal_in(value).ok_or(Untellable::NoResponse)?;
+    let more = more_in(value).ok_or(Untellable::NoResponse)?;
     let lines = lines_in(value).ok_or(Untellable::NoResponse)?;
+    let last = last_move(lines);
     let text = lines_text(alloc, lines)?;
-    Ok(Told { text, refusal })
+    Ok(Told {
+        text,
+        refusal,
+        more,
+        last,
+    })
 }
 
 /// What a body says.
 fn told_in(alloc: Global, body: &str) -> Result<Told, Untellable>
-    ensures told { IfOk result (λ told. Says body.now (string_bytes told.text) told.refusal) }
-    ensures untold { result ≡ Err Untellable.NoResponse → (text : List ℕ) (refusal : ℕ) → ¬ (Says body.now text refusal) }
+    ensures told { IfOk result (λ told. Says body.now (answer_of told)) }
+    ensures untold { result ≡ Err Untellable.NoResponse → (answer : Answer) → ¬ (Says body.now answer) }
 {
     let value = Value::from_str(alloc, body)?;
     told_by(alloc, &value)
 }
 
-/// What the response of a desk says: the lines of a reply, and what it is refused with.
+/// What the response of a desk says: the lines of a reply, what it is refused with, and how many lines are left out.
 ///
 /// # Errors
 ///
 /// `NoResponse` where it is none: it has no body that is a text and says this. `Memory` where there was no memory to read its body.
 pub fn read_told(alloc: Global, response: &[u8]) -> Result<Told, Untellable>
-    ensures told { IfOk result (λ told. Tells response.now (string_bytes told.text) told.refusal) }
+    ensures told { IfOk result (λ told. Tells response.now (answer_of told)) }
     ensures untold { IfErr result (IsUntold response.now) }
 {
     let body = body_of(response).ok_or(Untellable::NoResponse)?;

@@ -17,7 +17,7 @@ use Rattle.tc_desk.specs.Machine.{stamp_of}
 use Rattle.tc_desk.specs.Replies.{Reply, refusal_reply}
 use Rattle.tc_store.specs.Ledgers.{IsKeptText, KeptAnswer}
 use Rattle.tc_room.specs.declared.callers.Caller.{Caller}
-use Rattle.tc_room.specs.Calls.{ActsAnew, AnswersActCall, AnswersCall, AnswersLoadCall, FailsOnce, KeepsAll, LoadsAnew, MakesNothing, MakesOnce, StaysSo, kept_after, kept_for, kept_once, kept_with}
+use Rattle.tc_room.specs.Calls.{ActsAnew, AnswersActCall, AnswersCall, AnswersLoadCall, FailsLook, KeepsAll, LoadsAnew, MakesOnce, StaysSo, kept_after, kept_for, kept_once, kept_with}
 use Rattle.tc_room.specs.Crash.{ledger_of}
 use Rattle.tc_room.specs.Joined.{HasLedger, HoldsBook, LinkState, Standing}
 use Rattle.tc_room.specs.Replies.{AreLines, ended, is_refused}
@@ -200,12 +200,12 @@ module _ {S : Type 0} (g : Ghosts S) (replies : List KeptAnswer) (caller : Calle
 
   -- what a call is answered
   abbrev IsAnswered : Type 0 → Type 0
-  IsAnswered Anew = FailsOnce g replies caller MakesNothing old reply new
+  IsAnswered Anew = FailsLook g replies caller old reply new
       ⊎ ((kept_for replies caller ≡ Some (ended reply)) × (is_refused reply ≡ false) × (acts ≡ true) × StaysSo g replies old new)
       ⊎ ((kept_for replies caller ≡ None) × Anew)
 
   answered_held : (Anew : Type 0) → (kept_for replies caller ≡ None → Anew → HoldsAfter) → IsAnswered Anew → HoldsAfter
-  answered_held Anew anew (inl fails) = λ going. not_going new.stopped fails.stopped going
+  answered_held Anew anew (inl fails) = λ going. not_going new.stopped fails.fails.stopped going
   answered_held Anew anew (inr (inl (kept, granted, is, stays))) = stays_held (same_kept replies caller acts reply (ended reply) kept) stays
   answered_held Anew anew (inr (inr (none, made))) = anew none made
 
@@ -224,7 +224,7 @@ module _ {S : Type 0} (g : Ghosts S) (replies : List KeptAnswer) (caller : Calle
   load_call_held kind moment name csv answers held = call_held (λ replies acts reply new. LoadsAnew g kind moment name csv replies caller old acts reply new) (load_held kind moment name csv) answers held
 
   granted_kept : (Anew : Type 0) → acts ≡ true → is_refused reply ≡ false → IsAnswered Anew → kept_for (kept_after replies caller acts reply) caller ≡ Some (ended reply)
-  granted_kept Anew is granted (inl fails) = not_going (is_refused reply) (ap is_refused fails.reply ∙ refuses Store) granted
+  granted_kept Anew is granted (inl fails) = not_going (is_refused reply) (ap is_refused fails.fails.reply ∙ refuses Store) granted
   granted_kept Anew is granted (inr (inl (kept, _, _, _))) = after_kept replies caller acts reply (ended reply) kept
   granted_kept Anew is granted (inr (inr (none, made))) = after_new replies caller acts reply is none granted
 
@@ -237,7 +237,7 @@ module _ {S : Type 0} (g : Ghosts S) (replies : List KeptAnswer) (caller : Calle
 
   -- a call whose reply is kept is answered by that, and nothing is done; or its answer is a refusal
   same_answered : (Anew : Type 0) (body : List ℕ) → kept_for replies caller ≡ Some body → is_refused reply ≡ false → IsAnswered Anew → (ended reply ≡ body) × (acts ≡ true) × StaysSo g replies old new
-  same_answered Anew body kept granted (inl fails) = not_going (is_refused reply) (ap is_refused fails.reply ∙ refuses Store) granted
+  same_answered Anew body kept granted (inl fails) = not_going (is_refused reply) (ap is_refused fails.fails.reply ∙ refuses Store) granted
   same_answered Anew body kept granted (inr (inl (is, _, asks, stays))) = ((let e : (let some : Option (List ℕ) = Some (ended reply) in some) ≡ Some body = sym is ∙ kept in cc), asks, stays)
   same_answered Anew body kept granted (inr (inr (none, made))) = absurd (let e : (let some : Option (List ℕ) = Some body in some) ≡ None = sym kept ∙ none in cc)
 

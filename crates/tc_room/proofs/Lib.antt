@@ -10,3 +10,4 @@ mod LookLemmas
 pub mod ReportLemmas
 pub mod CallLemmas
 mod OnceLemmas
+pub mod TruthLemmas

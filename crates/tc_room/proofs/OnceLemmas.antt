@@ -20,7 +20,6 @@ use Rattle.tc_types.specs.declared.refusals.Refusal.TheVariants.{BadText, Store,
 use Rattle.tc_types.specs.declared.tables.rows.Row.{Row}
 use Rattle.tc_types.specs.ActGrammar.{SpellsAct}
 use Rattle.tc_types.specs.Tables.{Image, applied}
-use Rattle.tc_world.specs.declared.events.LinkIndication.{LinkIndication}
 use Rattle.tc_world.specs.EitherLink.{either}
 use Rattle.tc_book.specs.declared.stamps.Stamp.{Stamp}
 use Rattle.tc_book.specs.Book.{Book}
@@ -32,19 +31,16 @@ use Rattle.tc_desk.specs.State.{DeskState}
 use Rattle.tc_store.specs.Ledgers.{IsKeptText, KeptAnswer, Ledger, with_image}
 use Rattle.tc_store.specs.Schema.{Holds}
 use Rattle.tc_store.specs.Steps.{LeavesOnly}
-use Rattle.tc_room.specs.declared.answers.Answer.{Answer}
-use Rattle.tc_types.specs.declared.refusals.Untold.{Untold}
 use Rattle.tc_room.specs.declared.callers.Caller.{Caller}
 use Rattle.tc_room.specs.declared.calls.Called.{Called}
-use Rattle.tc_room.specs.Answers.{Asks, RefusesWith, Says}
-use Rattle.tc_room.specs.Calls.{ActsAnew, ActsTrue, AnswersCall, AnswersMaking, AsksOnce, CallsTrue, IsAnew, IsCalled, IsMadeOnce, JudgesActText, LoadsAnew, LooksUp, MakesOnce, StaysSo, kept_with, with_reply}
+use Rattle.tc_room.specs.Answers.{Asks, Says}
+use Rattle.tc_room.specs.Calls.{ActsAnew, AnswersCall, AsksOnce, IsAnew, IsCalled, IsMadeOnce, JudgesActText, LoadsAnew, LooksUp, MakesOnce, StaysSo, kept_with, with_reply}
 use Rattle.tc_room.specs.Crash.{HasRows, Leaves, ledger_of}
 use Rattle.tc_room.specs.Joined.{HasLedger, HoldsBook, Link, LinkState, Standing, desk_in}
 use Rattle.tc_room.specs.Replies.{AreLines, ended, is_refused}
 use Rattle.tc_room.specs.Room.{FailsStore, RoomStep, StepsDesk}
-use Rattle.tc_room.proofs.CallLemmas.{kept_as, kept_lines, refuses}
+use Rattle.tc_room.proofs.CallLemmas.{kept_as, kept_lines}
 use Rattle.tc_room.proofs.LoadLemmas.{on_false}
-use Rattle.tc_room.proofs.StopLemmas.{true_false}
 use Rattle.tc_room.proofs.TableLemmas.{left_by, made_or, only_ledger}
 
 -- ---- the tables
@@ -86,45 +82,29 @@ ok_text (Err e) text body same is = absurd (let none : Option (String Global) = 
 -- ---- what was made
 
 module _ {S : Type 0} (g : Ghosts S) (old new : Standing S) (caller : Caller) (Makes : Reply → LinkState → Type 0) (Free : Type 0) where
+  -- what the tables tell of it, with this reply
+  abbrev IsMade : Reply → Type 0
+  IsMade reply = IsAnew g (λ replies acts reply new. MakesOnce g replies caller Makes Free old reply new) old true reply new
+
   -- it was done
-  pub makes_done : (text : String Global) (reply : Reply) → string_bytes text ≡ ended reply → AreLines reply → is_refused reply ≡ false → Makes reply new.desk
+  pub makes_done : (reply : Reply) → Makes reply new.desk
       → ((replies : List KeptAnswer) → HoldsBook g old replies → HasCleanDisk (state g new.tables) → HasLedger g new.tables (ledger_of new.desk.book (kept_with replies caller reply)))
-      → new.opened ≡ old.opened → new.stopped ≡ false → AnswersMaking g caller Makes Free old (Ok text) new
-  makes_done text reply is lines granted makes holds opened goes =
-      (reply, is, lines, granted, λ replies held clean. inl (record { desk = makes; tables = holds replies held clean; opened = opened; going = goes }))
+      → new.opened ≡ old.opened → new.stopped ≡ false → IsMade reply
+  makes_done reply makes holds opened goes = λ replies held clean. inl (record { desk = makes; tables = holds replies held clean; opened = opened; going = goes })
 
   -- the desk refused
   pub makes_refused : (refusal : Refusal) → Makes (refusal_reply refusal) new.desk
       → ((replies : List KeptAnswer) → HoldsBook g old replies → HasCleanDisk (state g new.tables) → HasLedger g new.tables (ledger_of new.desk.book replies))
-      → new.opened ≡ old.opened → new.stopped ≡ false → AnswersMaking g caller Makes Free old (Err refusal) new
-  makes_refused refusal makes holds opened goes =
-      λ replies held clean. inl (record { desk = makes; tables = holds replies held clean; opened = opened; going = goes })
+      → new.opened ≡ old.opened → new.stopped ≡ false → IsMade (refusal_reply refusal)
+  makes_refused refusal makes holds opened goes = λ replies held clean. inl (record { desk = makes; tables = holds replies held clean; opened = opened; going = goes })
 
   -- the database failed
   pub makes_failed : Free → new.stopped ≡ true
       → ((replies : List KeptAnswer) → HoldsBook g old replies → HasCleanDisk (state g new.tables) → IsTrue (state g new.tables).is_open → Holds (state g new.tables).now (ledger_of old.desk.book replies))
       → ((replies : List KeptAnswer) → HoldsBook g old replies → HasCleanDisk (state g new.tables) → Leaves g new.tables (IsMadeOnce old.desk.book replies caller Makes))
-      → new.opened ≡ old.opened → AnswersMaking g caller Makes Free old (Err Store) new
+      → new.opened ≡ old.opened → IsMade (refusal_reply Store)
   makes_failed free stopped holds leaves opened =
       λ replies held clean. inr (free, record { reply = refl; stopped = stopped; tables = holds replies held clean; crash = leaves replies held clean; opened = opened })
-
--- an answer that says a refusal refuses
-pub says_refused : (refusal : Refusal) (answer : Result Answer Untold) (P : Type 0) → Says (refusal_reply refusal) answer → IfOk answer (λ a. a.refusal ≡ None → P)
-says_refused refusal (Err untold) P says = tt
-says_refused refusal (Ok answer) P says = λ none. absurd (by answer.refusal none says.2)
-  where
-    by : (told : Option Refusal) → told ≡ None → RefusesWith (refusal_reply refusal) told → ⊥
-    by None none granted = true_false (sym (refuses refusal) ∙ granted)
-    by (Some why) none granted = let e : (let some : Option Refusal = Some why in some) ≡ None = none in cc
-
--- whoever is told it, a reply that came leaves the desk as it was
-pub says_same : (answer : Result Answer Untold) (P : Type 0) → P → IfOk answer (λ a. a.refusal ≡ None → P)
-says_same (Err untold) P is = tt
-says_same (Ok answer) P is = λ none. is
-
-pub says_more : (answer : Result Answer Untold) (P Q : Type 0) → (P → Q) → IfOk answer (λ a. a.refusal ≡ None → P) → IfOk answer (λ a. a.refusal ≡ None → Q)
-says_more (Err untold) P Q go says = tt
-says_more (Ok answer) P Q go says = λ none. go (says none)
 
 -- ---- a room that looked at its kept replies is as it was but for its tables
 
@@ -170,59 +150,41 @@ module _ {S : Type 0} (g : Ghosts S) (replies : List KeptAnswer) (caller : Calle
   loads_over kind moment name csv acts reply anew = subst (λ (desk : DeskState (Link Frame) (Link Report)). LoadsAnew g kind moment name csv replies caller (at_desk desk old.tables old.stopped) acts reply new) same
       (loads_from g replies caller (desk_in mid) mid.tables old.tables mid.stopped old.stopped new kind moment name csv acts reply anew)
 
--- of an act that was read it is true what is true of a call
-pub calls_true : {S : Type 0} (old new : Standing S) (text : List ℕ) (called : Called) (given : Act) → SpellsAct text given
-    → IfOk called.answer (λ answer. answer.refusal ≡ None → (new.desk ≡ old.desk) ⊎ ((said : List LinkIndication) × ActsTrue given said old new)) → CallsTrue text old called new
-calls_true old new text called given spells = says_more called.answer _ _ by
-  where
-    by : (new.desk ≡ old.desk) ⊎ ((said : List LinkIndication) × ActsTrue given said old new) → (new.desk ≡ old.desk) ⊎ ((given : Act) × (said : List LinkIndication) × SpellsAct text given × ActsTrue given said old new)
-    by (inl is) = inl is
-    by (inr (said, true_of)) = inr (given, said, spells, true_of)
-
-pub calls_true_over : {S : Type 0} (old mid new : Standing S) (text : List ℕ) (called : Called) → desk_in mid ≡ desk_in old → CallsTrue text mid called new → CallsTrue text old called new
-calls_true_over {S} old mid new text called same = says_more called.answer _ _ by
-  where
-    by : (new.desk ≡ mid.desk) ⊎ ((given : Act) × (said : List LinkIndication) × SpellsAct text given × ActsTrue given said mid new)
-        → (new.desk ≡ old.desk) ⊎ ((given : Act) × (said : List LinkIndication) × SpellsAct text given × ActsTrue given said old new)
-    by (inl is) = inl (is ∙ ap (λ (desk : DeskState (Link Frame) (Link Report)). desk.parts) same)
-    by (inr (given, said, spells, true_of)) = inr (
-      given,
-      said,
-      spells,
-      subst (λ (desk : DeskState (Link Frame) (Link Report)). ActsTrue given said (at_desk desk old.tables old.stopped) new) same
-          (record { fair = true_of.fair; taken = true_of.taken; clean = true_of.clean; whole = true_of.whole; summary = true_of.summary }),
-    )
-
 -- ---- calls
 
-module _ {S : Type 0} (g : Ghosts S) (caller : Caller) (old new : Standing S) (called : Called) (Anew : List KeptAnswer → Bool → Reply → Standing S → Type 0) where
+module _ {S : Type 0} (g : Ghosts S) (caller : Caller) (old new : Standing S) (called : Called) (Anew : List KeptAnswer → Bool → Reply → Standing S → Type 0) (Tells : Reply → Standing S → Type 0) where
   -- the room had stopped, or the kept replies could not be read
-  pub call_failed : (refusal : Refusal) → LooksUp g caller old (Err refusal) new → Says (refusal_reply refusal) called.answer → new.opened ≡ old.opened → IsCalled (AnswersCall g Anew caller old) old called new
-  call_failed refusal looked says opened = record {
+  pub call_failed : (refusal : Refusal) → LooksUp g caller old (Err refusal) new → Says (refusal_reply refusal) called.answer → new.opened ≡ old.opened → Tells (refusal_reply refusal) new
+      → IsCalled (AnswersCall g Anew caller old) Tells old called new
+  call_failed refusal looked says opened tells = record {
     reply = refusal_reply refusal;
     made = λ replies held clean. map_match old.stopped (λ was. (ap refusal_reply was.0, was.1)) (λ fails. inl fails) (looked replies held clean);
     says = says;
     opened = opened;
+    tells = tells;
   }
 
   -- a reply is kept
   pub call_again : (text : String Global) → LooksUp g caller old (Ok (Some text)) new → old.stopped ≡ false → IsKeptText (string_bytes text) → called.acts ≡ true
-      → ((reply : Reply) → string_bytes text ≡ ended reply → AreLines reply → is_refused reply ≡ false → Says reply called.answer) → new.opened ≡ old.opened → IsCalled (AnswersCall g Anew caller old) old called new
-  call_again text looked going kept acts says opened =
+      → ((reply : Reply) → string_bytes text ≡ ended reply → AreLines reply → is_refused reply ≡ false → Says reply called.answer) → new.opened ≡ old.opened → ((reply : Reply) → Tells reply new)
+      → IsCalled (AnswersCall g Anew caller old) Tells old called new
+  call_again text looked going kept acts says opened tells =
       let lines = kept_lines (string_bytes text) kept in
       record {
         reply = lines.0;
         made = λ replies held clean. let found = looked replies held clean in on_false old.stopped _ _ going (inr (inl (sym found.0 ∙ ap Some lines.1, lines.3, acts, found.1)));
         says = says lines.0 lines.1 lines.2 lines.3;
         opened = opened;
+        tells = tells lines.0;
       }
 
 -- none is kept, and it is asked anew
 pub call_anew : {S : Type 0} (g : Ghosts S) (caller : Caller) (old mid new : Standing S) (called : Called) (Anew : Standing S → List KeptAnswer → Bool → Reply → Standing S → Type 0)
-    → LooksUp g caller old (Ok None) mid → old.stopped ≡ false → mid.opened ≡ old.opened → (HasCleanDisk (state g new.tables) → HasCleanDisk (state g mid.tables))
+    (Tells : Standing S → Reply → Standing S → Type 0) → LooksUp g caller old (Ok None) mid → old.stopped ≡ false → mid.opened ≡ old.opened → (HasCleanDisk (state g new.tables) → HasCleanDisk (state g mid.tables))
     → ((replies : List KeptAnswer) (acts : Bool) (reply : Reply) → Anew mid replies acts reply new → Anew old replies acts reply new)
-    → IsCalled (IsAnew g (Anew mid) mid) mid called new → IsCalled (AnswersCall g (Anew old) caller old) old called new
-call_anew g caller old mid new called Anew looked going opened cleans over is = record {
+    → ((reply : Reply) → Tells mid reply new → Tells old reply new) → IsCalled (IsAnew g (Anew mid) mid) (Tells mid) mid called new
+    → IsCalled (AnswersCall g (Anew old) caller old) (Tells old) old called new
+call_anew g caller old mid new called Anew Tells looked going opened cleans over more is = record {
   reply = is.reply;
   made = λ replies held clean. on_false old.stopped _ _ going (inr (inr (
     sym (looked replies held (cleans clean)).0,
@@ -231,6 +193,7 @@ call_anew g caller old mid new called Anew looked going opened cleans over is = 
   )));
   says = is.says;
   opened = is.opened ∙ opened;
+  tells = more is.reply is.tells;
 }
 
 -- nothing was done by what was refused

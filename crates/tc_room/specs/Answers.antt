@@ -19,6 +19,7 @@ use Rattle.tc_types.specs.declared.refusals.Untold.{Untold}
 use Rattle.tc_room.specs.Joined.{Standing, desk_in}
 use Rattle.tc_room.specs.Replies.{AreLines, ended, is_refused}
 use Rattle.tc_room.specs.Room.{RoomStep}
+use Rattle.tc_room.specs.Truth.{TellsTrue}
 
 -- A line that is refused as it is read: with TooLong exactly where its act is too long, and else with BadText, where no
 -- line with an act of 200 bytes or fewer is spelled so.
@@ -27,11 +28,12 @@ pub record IsUnread (line : List ℕ) (refusal : Refusal) : Type 0 where
   pub others : refusal ≢ TooLong → refusal ≡ BadText
   pub unspelled : (read : Line) → SpellsLine line read → ¬ (length (act_text read.act) ≤ 200)
 
--- A line is answered: one that cannot be read is refused, also where the room has stopped; another makes a step.
+-- A line is answered: one that cannot be read is refused, also where the room has stopped; another makes a step, and what is told of its act is true.
 abbrev pub AnswersLine : {S : Type 0} → Ghosts S → Standing S → List ℕ → Reply → Standing S → Type 0
 AnswersLine g old line reply new =
     ((refusal : Refusal) × IsUnread line refusal × (reply ≡ refusal_reply refusal) × (new ≡ old))
-    ⊎ ((read : Line) × SpellsLine line read × ¬ HasLongAct line × RoomStep g old (stamp_of read) read.act reply new)
+    ⊎ ((read : Line) × SpellsLine line read × ¬ HasLongAct line × RoomStep g old (stamp_of read) read.act reply new
+    × TellsTrue read.act reply old new)
 
 -- a question, whoever asks
 abbrev pub Asks : {S : Type 0} → Ghosts S → Standing S → Query → Reply → Standing S → Type 0

@@ -1,5 +1,5 @@
 -- What is asked under a number of its caller, so that it is done once though it comes twice.
-use Rattle.std.specs.Prelude.{◌≡◌, ◌⊎◌, ⊤, ◌≤◌, ℕ, Bool, true, false, not, if◌then◌else◌, MatchBool, IsTrue, IfOk, Option, Some, None, option_map, Result, Ok, Err, List, [], ◌∷◌, ◌++◌, length}
+use Rattle.std.specs.Prelude.{◌≡◌, ◌⊎◌, ⊤, ◌≤◌, ℕ, Bool, true, false, not, if◌then◌else◌, MatchBool, IsTrue, Option, Some, None, option_map, Result, Ok, Err, List, [], ◌∷◌, ◌++◌, length}
 use Rattle.std.specs.declared.string.String.{String}
 use Rattle.std.specs.String.{string_bytes}
 use Rattle.sqlite_trees.specs.declared.store.Store.{Ghosts}
@@ -10,24 +10,16 @@ use Rattle.tc_types.specs.declared.acts.Line.{Line}
 use Rattle.tc_types.specs.declared.loads.LoadKind.{LoadKind}
 use Rattle.tc_types.specs.declared.refusals.Refusal.{Refusal}
 use Rattle.tc_types.specs.declared.refusals.Refusal.TheVariants.{BadText, Memory, Store, Stopped, TooLong}
-use Rattle.tc_types.specs.declared.link.reports.Report.TheVariants as report
-use Rattle.tc_types.specs.declared.link.reports.Telemetry.TheVariants as telemetry
 use Rattle.tc_types.specs.ActGrammar.{SpellsAct}
 use Rattle.tc_types.specs.Names.{IsName}
 use Rattle.tc_store.specs.Ledgers.{KeptAnswer, Ledger, reply_at}
-use Rattle.tc_world.specs.declared.events.LinkIndication.{LinkIndication}
 use Rattle.tc_world.specs.EitherLink.{either}
-use Rattle.tc_board.specs.Schedule.{ScheduleState, IsSchedule, summary_of}
-use Rattle.tc_board.specs.Mirror.{mirror_of}
 use Rattle.tc_book.specs.declared.stamps.Stamp.{Stamp}
 use Rattle.tc_book.specs.Acts.{first_refusal}
 use Rattle.tc_book.specs.Book.{Book}
 use Rattle.std.specs.declared.alloc.Global.{Global}
 use Rattle.tc_desk.specs.declared.dones.Done.{Done}
 use Rattle.tc_desk.specs.Acts.{is_question, refusal_of}
-use Rattle.tc_desk.specs.Downlink.{KeepsWhole, came_down}
-use Rattle.tc_desk.specs.Fair.{IsFairlyTold}
-use Rattle.tc_desk.specs.Headline.{TakesAccepted, clean_after}
 use Rattle.tc_desk.specs.Promise.{KeepsPromise}
 use Rattle.tc_desk.specs.Loads.{Loading, LoadStep, tests_of_load}
 use Rattle.tc_desk.specs.Machine.{DeskStep, stamp_of}
@@ -117,11 +109,17 @@ MakesOnce g replies caller Makes Free old reply new = DoesOnce g replies caller 
 abbrev pub IsAnew : {S : Type 0} → Ghosts S → (List KeptAnswer → Bool → Reply → Standing S → Type 0) → Standing S → Bool → Reply → Standing S → Type 0
 IsAnew g What old acts reply new = (replies : List KeptAnswer) → HoldsBook g old replies → HasCleanDisk (state g new.tables) → What replies acts reply new
 
--- the answer to it: the text of a reply that refuses nothing, or a refusal
-abbrev pub AnswersMaking : {S : Type 0} → Ghosts S → Caller → (Reply → LinkState → Type 0) → Type 0 → Standing S → Result (String Global) Refusal → Standing S → Type 0
-AnswersMaking g caller Makes Free old (Ok text) new = (reply : Reply) × (string_bytes text ≡ ended reply) × AreLines reply × (is_refused reply ≡ false)
+-- the answer to it: the text of a reply that refuses nothing, or a refusal; and so much is true of the reply and the room, whatever the tables hold
+abbrev pub AnswersMaking : {S : Type 0} → Ghosts S → Caller → (Reply → LinkState → Type 0) → Type 0 → (Reply → Standing S → Type 0) → Standing S → Result (String Global) Refusal → Standing S → Type 0
+AnswersMaking g caller Makes Free Tells old (Ok text) new = (reply : Reply) × (string_bytes text ≡ ended reply) × AreLines reply × (is_refused reply ≡ false) × Tells reply new
     × IsAnew g (λ replies acts reply new. MakesOnce g replies caller Makes Free old reply new) old true reply new
-AnswersMaking g caller Makes Free old (Err refusal) new = IsAnew g (λ replies acts reply new. MakesOnce g replies caller Makes Free old reply new) old true (refusal_reply refusal) new
+AnswersMaking g caller Makes Free Tells old (Err refusal) new = Tells (refusal_reply refusal) new
+    × IsAnew g (λ replies acts reply new. MakesOnce g replies caller Makes Free old reply new) old true (refusal_reply refusal) new
+
+-- The kept replies could not be read: the room has stopped, and its desk is as it was.
+pub record FailsLook {S : Type 0} (g : Ghosts S) (replies : List KeptAnswer) (caller : Caller) (old : Standing S) (told : Reply) (new : Standing S) : Type 0 where
+  pub fails : FailsOnce g replies caller MakesNothing old told new
+  pub desk : desk_in new ≡ desk_in old
 
 -- the kept replies are looked at, and nothing is done; or they could not be read; or the room had stopped
 abbrev pub LooksUp : {S : Type 0} → Ghosts S → Caller → Standing S → Result (Option (String Global)) Refusal → Standing S → Type 0
@@ -129,7 +127,7 @@ LooksUp g caller old (Ok found) new = (replies : List KeptAnswer) → HoldsBook 
     → (option_map string_bytes found ≡ kept_for replies caller) × StaysSo g replies old new
 LooksUp g caller old (Err refusal) new = (replies : List KeptAnswer) → HoldsBook g old replies → HasCleanDisk (state g new.tables) → MatchBool old.stopped
     ((refusal ≡ Stopped) × (new ≡ old))
-    (FailsOnce g replies caller MakesNothing old (refusal_reply refusal) new)
+    (FailsLook g replies caller old (refusal_reply refusal) new)
 
 -- what the desk machine makes of what may be called: of an act, of a load, or of a look at the kept replies
 pub data Making : Type 0 where
@@ -199,7 +197,7 @@ LoadsAnew g kind moment name csv replies caller old acts reply new = (acts ≡ t
 abbrev pub AnswersCall : {S : Type 0} → Ghosts S → (List KeptAnswer → Bool → Reply → Standing S → Type 0) → Caller → Standing S → Bool → Reply → Standing S → Type 0
 AnswersCall g Anew caller old acts reply new = (replies : List KeptAnswer) → HoldsBook g old replies → HasCleanDisk (state g new.tables) → MatchBool old.stopped
     ((reply ≡ refusal_reply Stopped) × (new ≡ old))
-    (FailsOnce g replies caller MakesNothing old reply new
+    (FailsLook g replies caller old reply new
     ⊎ ((kept_for replies caller ≡ Some (ended reply)) × (is_refused reply ≡ false) × (acts ≡ true) × StaysSo g replies old new)
     ⊎ ((kept_for replies caller ≡ None) × Anew replies acts reply new))
 
@@ -211,27 +209,14 @@ AnswersActCall g caller moment text old acts reply new = AnswersCall g (λ repli
 abbrev pub AnswersLoadCall : {S : Type 0} → Ghosts S → Caller → LoadKind → Option ℕ → List ℕ → List ℕ → Standing S → Bool → Reply → Standing S → Type 0
 AnswersLoadCall g caller kind moment name csv old acts reply new = AnswersCall g (λ replies acts reply new. LoadsAnew g kind moment name csv replies caller old acts reply new) caller old acts reply new
 
--- What was called made a reply of this kind, and the answer says it; as many rows of the history stood once the room was opened.
-pub record IsCalled {S : Type 0} (Makes : Bool → Reply → Standing S → Type 0) (old : Standing S) (called : Called) (new : Standing S) : Type 0 where
+-- What was called made a reply of this kind, and the answer says it; as many rows of the history stood once the room was opened. So much is true of it, whatever the
+-- tables hold.
+pub record IsCalled {S : Type 0} (Makes : Bool → Reply → Standing S → Type 0) (Tells : Reply → Standing S → Type 0) (old : Standing S) (called : Called) (new : Standing S) : Type 0 where
   pub reply : Reply
   pub made : Makes called.acts reply new
   pub says : Says reply called.answer
   pub opened : new.opened ≡ old.opened
-
--- ---- what is true of an act that a call carried out, whatever the tables hold
-
--- what is said of an act of a room is said of one that is called
-pub record ActsTrue {S : Type 0} (given : Act) (said : List LinkIndication) (old new : Standing S) : Type 0 where
-  pub fair : IsFairlyTold old.desk new.desk said
-  pub taken : TakesAccepted given old.desk new.desk
-  pub clean : new.desk.world.clean ≡ clean_after either either old.desk given
-  pub whole : KeepsWhole either given (desk_in old) (desk_in new) said
-  pub summary : (s : ScheduleState) → IsSchedule s.activities → came_down said ≡ report.Telemetry (telemetry.Summary (summary_of s)) ∷ [] → new.desk.mirror ≡ mirror_of s
-
--- The desk is as it was, or the act that the text spells was carried out, or the answer is a refusal.
-abbrev pub CallsTrue : {S : Type 0} → List ℕ → Standing S → Called → Standing S → Type 0
-CallsTrue text old called new = IfOk called.answer (λ answer. answer.refusal ≡ None
-    → (new.desk ≡ old.desk) ⊎ ((given : Act) × (said : List LinkIndication) × SpellsAct text given × ActsTrue given said old new))
+  pub tells : Tells reply new
 
 -- ---- when a room stops
 

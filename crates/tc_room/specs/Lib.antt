@@ -6,3 +6,4 @@ pub mod Replies
 pub mod Room
 pub mod Loads
 pub mod Calls
+pub mod Truth

@@ -8,15 +8,15 @@ ghost use Rattle.tc_types.specs.declared.acts.Line.{Line as SomeLine};
 ghost use Rattle.tc_types.specs.declared.refusals.Refusal.{Refusal as SomeRefusal};
 ghost use Rattle.tc_types.specs.declared.refusals.Refusal.TheVariants.{Memory};
 ghost use Rattle.tc_types.specs.Names.{IsName};
-ghost use Rattle.tc_world.specs.declared.events.LinkIndication.{LinkIndication};
 ghost use Rattle.tc_world.specs.EitherLink.{either};
 ghost use Rattle.tc_desk.specs.Acts.{is_question, refusal_of};
 ghost use Rattle.tc_desk.specs.Machine.{DeskStep};
 ghost use Rattle.tc_desk.specs.Replies.{Reply, refusal_reply};
 ghost use Rattle.tc_room.specs.Answers.{Says};
-ghost use Rattle.tc_room.specs.Calls.{ActsAnew, ActsTrue, AnswersActCall, AnswersLoadCall, AsksOnce, CallsTrue, IsAnew, IsCalled, IsUnfit, JudgesActText, KeepsCall, LoadsAnew, LoadsTextOnce, MakesOnce, outcome_in};
+ghost use Rattle.tc_room.specs.Calls.{ActsAnew, AnswersActCall, AnswersLoadCall, AsksOnce, IsAnew, IsCalled, IsUnfit, JudgesActText, KeepsCall, LoadsAnew, LoadsTextOnce, MakesOnce, outcome_in};
 ghost use Rattle.tc_room.specs.Joined.{FollowsBoard};
 ghost use Rattle.tc_room.specs.Replies.{AreLines, ended, is_refused};
+ghost use Rattle.tc_room.specs.Truth.{LeavesLink, TellsTextTrue, TellsTrue};
 
 use crate::answers::{Answer, answer_asked, refusal_answer};
 use crate::callers::Caller;
@@ -108,9 +108,8 @@ impl<S: Alter + Drop> Room<S> {
     fn do_once(&mut self, alloc: Global, caller: Caller, stamp: Stamp, act: Act) -> Called
         requires going { self.old.stopped ≡ false }
         requires acts { is_question act ≡ false }
-        ensures called { IsCalled (IsAnew S.Store (λ replies acts reply new. (acts ≡ true) × MakesOnce S.Store replies caller (DeskStep either either self.old.desk stamp act) (refusal_of stamp self.old.desk act ≡ None) self.old reply new) self.old) self.old result self.new }
+        ensures called { IsCalled (IsAnew S.Store (λ replies acts reply new. (acts ≡ true) × MakesOnce S.Store replies caller (DeskStep either either self.old.desk stamp act) (refusal_of stamp self.old.desk act ≡ None) self.old reply new) self.old) (λ reply new. TellsTrue act reply self.old new) self.old result self.new }
         ensures keeps { KeepsCall S.Store self.old result self.new }
-        ensures acted { IfOk result.answer (λ answer. answer.refusal ≡ None → (said : List LinkIndication) × ActsTrue act said self.old self.new) }
     {
         match self.act_kept(alloc, caller, stamp, act) {
             Ok(text) => granted(text),
@@ -121,9 +120,8 @@ impl<S: Alter + Drop> Room<S> {
     /// What is asked anew by a line that was read.
     fn ask_once(&mut self, alloc: Global, caller: Caller, line: Line) -> Called
         requires going { self.old.stopped ≡ false }
-        ensures called { IsCalled (IsAnew S.Store (λ replies acts reply new. AsksOnce S.Store replies caller self.old line acts reply new) self.old) self.old result self.new }
+        ensures called { IsCalled (IsAnew S.Store (λ replies acts reply new. AsksOnce S.Store replies caller self.old line acts reply new) self.old) (λ reply new. TellsTrue line.act reply self.old new) self.old result self.new }
         ensures keeps { KeepsCall S.Store self.old result self.new }
-        ensures acted { IfOk result.answer (λ answer. answer.refusal ≡ None → (self.new.desk ≡ self.old.desk) ⊎ ((said : List LinkIndication) × ActsTrue line.act said self.old self.new)) }
     {
         match line.act {
             Act::Ask(query) => {
@@ -154,9 +152,8 @@ impl<S: Alter + Drop> Room<S> {
         text: &[u8],
     ) -> Called
         requires going { self.old.stopped ≡ false }
-        ensures called { IsCalled (IsAnew S.Store (λ replies acts reply new. ActsAnew S.Store moment text.now replies caller self.old acts reply new) self.old) self.old result self.new }
+        ensures called { IsCalled (IsAnew S.Store (λ replies acts reply new. ActsAnew S.Store moment text.now replies caller self.old acts reply new) self.old) (λ reply new. TellsTextTrue text.now reply self.old new) self.old result self.new }
         ensures keeps { KeepsCall S.Store self.old result self.new }
-        ensures acted { CallsTrue text.now self.old result self.new }
     {
         // read for the proof alone: the promise is kept
         let _opened = self.opened();
@@ -174,9 +171,8 @@ impl<S: Alter + Drop> Room<S> {
         moment: Option<Moment>,
         text: &[u8],
     ) -> Called
-        ensures called { IsCalled (AnswersActCall S.Store caller moment text.now self.old) self.old result self.new }
+        ensures called { IsCalled (AnswersActCall S.Store caller moment text.now self.old) (λ reply new. TellsTextTrue text.now reply self.old new) self.old result self.new }
         ensures keeps { KeepsCall S.Store self.old result self.new }
-        ensures acted { CallsTrue text.now self.old result self.new }
     {
         match self.kept_reply(caller.by, caller.number) {
             Ok(Some(text)) => granted(text),
@@ -194,10 +190,8 @@ impl<S: Alter + Drop> Room<S> {
         moment: Option<Moment>,
         text: &[u8],
     ) -> Called
-        ensures called { IsCalled (AnswersActCall S.Store caller moment text.now self.old) self.old result self.new }
+        ensures called { IsCalled (AnswersActCall S.Store caller moment text.now self.old) (λ reply new. TellsTextTrue text.now reply self.old new) self.old result self.new }
         ensures keeps { KeepsCall S.Store self.old result self.new }
-        // of an act that was carried out it is true what is true of each
-        ensures acted { CallsTrue text.now self.old result self.new }
         ensures mirror { FollowsBoard self.new }
     {
         let called = self.act_called(alloc, caller, moment, text);
@@ -217,7 +211,7 @@ impl<S: Alter + Drop> Room<S> {
         csv: &[u8],
     ) -> Called
         requires going { self.old.stopped ≡ false }
-        ensures called { IsCalled (IsAnew S.Store (λ replies acts reply new. (acts ≡ true) × LoadsTextOnce S.Store kind stamp name csv.now replies caller self.old reply new) self.old) self.old result self.new }
+        ensures called { IsCalled (IsAnew S.Store (λ replies acts reply new. (acts ≡ true) × LoadsTextOnce S.Store kind stamp name csv.now replies caller self.old reply new) self.old) (λ reply new. LeavesLink self.old new) self.old result self.new }
         ensures keeps { KeepsCall S.Store self.old result self.new }
     {
         // read for the proof alone: the promise is kept
@@ -243,7 +237,7 @@ impl<S: Alter + Drop> Room<S> {
         csv: &[u8],
     ) -> Called
         requires going { self.old.stopped ≡ false }
-        ensures called { IsCalled (IsAnew S.Store (λ replies acts reply new. LoadsAnew S.Store kind moment name.now csv.now replies caller self.old acts reply new) self.old) self.old result self.new }
+        ensures called { IsCalled (IsAnew S.Store (λ replies acts reply new. LoadsAnew S.Store kind moment name.now csv.now replies caller self.old acts reply new) self.old) (λ reply new. LeavesLink self.old new) self.old result self.new }
         ensures keeps { KeepsCall S.Store self.old result self.new }
     {
         // read for the proof alone: the promise is kept
@@ -272,7 +266,7 @@ impl<S: Alter + Drop> Room<S> {
         name: &[u8],
         csv: &[u8],
     ) -> Called
-        ensures called { IsCalled (AnswersLoadCall S.Store caller kind moment name.now csv.now self.old) self.old result self.new }
+        ensures called { IsCalled (AnswersLoadCall S.Store caller kind moment name.now csv.now self.old) (λ reply new. LeavesLink self.old new) self.old result self.new }
         ensures keeps { KeepsCall S.Store self.old result self.new }
     {
         match self.kept_reply(caller.by, caller.number) {

@@ -86,9 +86,9 @@ module _ {S : Type 0} (g : Ghosts S) (stored : List KeptAnswer) where
     where
       by_flag : (skipped : Bool) → MatchBool skipped ((files ≡ []) × (replies ≡ []) × (new ≡ old)) ((reply : Reply) × (replies ≡ reply ∷ []) × AnswersScriptLine g old line files reply new) → HoldsBook g new stored
       by_flag true (_, _, same) = subst (λ (s : Standing S). HoldsBook g s stored) (sym same) held
-      by_flag false (reply, _, inl (load, text, _, _, loads)) = load_held old new (loader_of load) load.kind load.name text reply loads held
+      by_flag false (reply, _, inl (load, text, _, _, loads, _)) = load_held old new (loader_of load) load.kind load.name text reply loads held
       by_flag false (reply, _, inr (_, _, inl (_, _, _, same))) = subst (λ (s : Standing S). HoldsBook g s stored) (sym same) held
-      by_flag false (reply, _, inr (_, _, inr (read, _, _, step))) = step_held old new (stamp_of read) read.act reply step held
+      by_flag false (reply, _, inr (_, _, inr (read, _, _, step, _))) = step_held old new (stamp_of read) read.act reply step held
 
   -- and through all of them
   pub lines_held : (old new : Standing S) (lines : List (List ℕ)) (files : List FileAnswer) (replies : List Reply) → TakesLines g old lines files replies new → HoldsBook g old stored → HoldsBook g new stored
@@ -156,11 +156,11 @@ module _ {S : Type 0} (g : Ghosts S) (stored : List KeptAnswer) where
       by_flag : (skipped : Bool) → MatchBool skipped ((given ≡ []) × (now ≡ []) × (new ≡ old)) ((reply : Reply) × (now ≡ reply ∷ []) × AnswersScriptLine g old line given reply new)
           → Failed start lines (replies ++ now) new
       by_flag true (_, _, same) = failed_more start old new lines replies now failed same
-      by_flag false (reply, is, inl (load, text, is_load, _, loads)) =
+      by_flag false (reply, is, inl (load, text, is_load, _, loads, _)) =
           load_failed start old new lines replies now (loader_of load) load.kind load.name text reply loads held failed
           (λ loading spells fail. here reply is (inl (load, text, loading, is_load, spells, fail)))
       by_flag false (reply, is, inr (_, _, inl (_, _, _, same))) = failed_more start old new lines replies now failed same
-      by_flag false (reply, is, inr (_, _, inr (read, spells, _, step))) =
+      by_flag false (reply, is, inr (_, _, inr (read, spells, _, step, _))) =
           step_failed start old new lines replies now (stamp_of read) read.act reply step held failed
           (λ fail. here reply is (inr (read, spells, fail)))
 

@@ -131,6 +131,7 @@ module _ {S : Type 0} (g : Ghosts S) (echo : Bool) where
         last = reply;
         taken = ran.taken;
         asked = asked.asked;
+        leaves = asked.leaves;
         given = ran.given;
         written = Appends-trans _ _ _ _ _ ran.written asked.written;
         status_is = ap (λ (b : Bool). if b then 1 else 0) (sym any);

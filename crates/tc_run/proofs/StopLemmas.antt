@@ -24,15 +24,15 @@ use Rattle.tc_room.specs.Joined.{HoldsBook, Standing, desk_in}
 use Rattle.tc_room.specs.Loads.{RoomLoad, loader_of}
 use Rattle.tc_room.specs.Replies.{AreLines, ended}
 use Rattle.tc_room.specs.Room.{IsJustOpened}
+use Rattle.tc_room.specs.Truth.{LeavesLink}
 use Rattle.tc_closed.specs.declared.paths.PathFault.TheVariants as path_fault
 use Rattle.tc_closed.specs.declared.scripts.ScriptFault.{ScriptFault}
 use Rattle.tc_closed.specs.declared.scripts.ScriptFault.TheVariants.{Script, Output, Memory, Tables, Config, Path}
 use Rattle.tc_closed.specs.Files.{FileAnswer, Gives, file_at, none_at}
 use Rattle.tc_closed.specs.Scripts.{Ends, fault_of, written_counts}
 use Rattle.tc_check.specs.Scripts.{IsLoadLine, is_skipped, script_lines}
-use Rattle.tc_run.specs.Run.{AnswersScriptLine, Came, OfScript, RepliesTo, TakesFront, TakesLine, TakesLines, answered, exchange, exchanges}
+use Rattle.tc_run.specs.Run.{AnswersScriptLine, Came, RepliesTo, TakesFront, TakesLine, TakesLines, answered, exchange, exchanges}
 use Rattle.tc_run.specs.Stops.{AnswersNext, IsCutShort, IsUnopened, IsUntouched, LeavesPart, Stops, StopsAfter, StopsNext, Unanswered, UnansweredNext}
-use Rattle.tc_closed.specs.Scripts.{IsUnread}
 use Rattle.tc_closed.proofs.EndsLemmas.{ends_by}
 use Rattle.tc_run.proofs.HoldLemmas.{Failed, front_failed, line_failed, line_held, lines_held, nobody, question_failed, step_held}
 use Rattle.tc_run.proofs.RunLemmas.{HasRun}
@@ -50,13 +50,13 @@ by_fault (Err fault) Why (inr is) memory path = subst Why (sym is) (path (ap Err
 -- in a room over any store
 module _ {S : Type 0} (g : Ghosts S) (echo : Bool) where
   -- the line that loads a file came to none
-  pub file_unanswered : {X : Type 0} (old new : Standing S) (line : List ℕ) (load : LoadLine) (gave gives : Option (List FileAnswer)) (result : Result X ScriptFault) → IsLoadLine line load
+  pub file_unanswered : {X : Type 0} (old new : Standing S) (line : List ℕ) (load : LoadLine) (gave gives : Option (List FileAnswer)) (result : Result X ScriptFault) → IsLoadLine line load → LeavesLink old new
       → IfErr result (λ fault. (fault ≡ Memory) ⊎ (fault ≡ Path))
       → (result ≡ Err Path → Gives gave gives (none_at load.path path_fault.Unreadable ∷ []) × (new ≡ old))
       → (result ≡ Err Memory → ((reply : Reply) × (text : List ℕ) × RoomLoad g old (loader_of load) load.kind load.name text reply new × Gives gave gives (file_at load.path text ∷ []))
       ⊎ (Gives gave gives (none_at load.path path_fault.Memory ∷ []) × (new ≡ old)))
       → IfErr result (Unanswered g old line gave gives new)
-  file_unanswered old new line load gave gives result is fault path memory =
+  file_unanswered old new line load gave gives result is link fault path memory =
       by_fault result (Unanswered g old line gave gives new) fault (λ was. of_memory (memory was)) (λ was. of_path (path was))
     where
       of_path : Gives gave gives (none_at load.path path_fault.Unreadable ∷ []) × (new ≡ old) → Unanswered g old line gave gives new Path
@@ -64,7 +64,7 @@ module _ {S : Type 0} (g : Ghosts S) (echo : Bool) where
 
       of_memory : ((reply : Reply) × (text : List ℕ) × RoomLoad g old (loader_of load) load.kind load.name text reply new × Gives gave gives (file_at load.path text ∷ []))
           ⊎ (Gives gave gives (none_at load.path path_fault.Memory ∷ []) × (new ≡ old)) → Unanswered g old line gave gives new Memory
-      of_memory (inl (reply, text, loads, given)) = (file_at load.path text ∷ [], inl (reply, inl (load, text, is, refl, loads)), given)
+      of_memory (inl (reply, text, loads, given)) = (file_at load.path text ∷ [], inl (reply, inl (load, text, is, refl, loads, link)), given)
       of_memory (inr (given, same)) = (none_at load.path path_fault.Memory ∷ [], inr ((load, is, refl), same), given)
 
   -- ---- a line that is not answered
@@ -275,13 +275,7 @@ pub run_unopened : {X : Type 0} (Done : X → Type 0) (echo : Bool) (config : co
 run_unopened Done echo config lines p w counts why (Ok x) unfit kind is = absurd is
 run_unopened {X = X} Done echo config lines p w counts why (Err fault) unfit kind is =
     let un : IsUnopened config fault = rw is (unopened config why unfit kind) in
-    ends_by Done (λ fault. Stops echo config fault lines p p w w) counts counts fault (inl (inr un, untouched p w)) (unopened_other config fault un) (λ none. none ∙ unopened_unwritten X config fault un)
-
--- a run whose script could not be read
-pub stops_unread : (echo : Bool) (config : configs.Config) (read : Option (List ℕ)) (p : Option (List FileAnswer)) (w : Option (List ℕ)) (fault : ScriptFault) → IsUnread fault
-    → OfScript read (λ input. Stops echo config fault (script_lines input) p p w w)
-stops_unread echo config None p w fault is = ([], tt, inl (inl is, untouched p w))
-stops_unread echo config (Some input) p w fault is = (input, refl, inl (inl is, untouched p w))
+    ends_by Done (λ fault. Stops echo config fault lines p p w w) counts counts fault (inl (un, untouched p w)) (unopened_other config fault un) (λ none. none ∙ unopened_unwritten X config fault un)
 
 -- a run that stopped after some of its lines
 pub run_stopped : (echo : Bool) (config : configs.Config) (lines : List (List ℕ)) (start after : Standing MemStore) (gave gives : Option (List FileAnswer)) (old new : Option (List ℕ)) (fault : ScriptFault)

@@ -128,7 +128,7 @@ module _ {D : Type 0} {g : disk.Ghosts D} where
     -- after the making of a desk that was refused, in a database with no table
     pub anew : (store : Held (FileStore D g)) (chosen : Config) (at : ℕ) → (file_state store).now.schema ≡ no_schema → LeavesNone over_files store → LeavesOpening over_files chosen at store last
         → OpensNew over_files config moment moves room
-    -- of whatever desk's tables a crash left, whichever rows they are read as (so it is a next room of `tc_api::laws::a_call_is_done_once`)
+    -- of whatever desk's tables a crash left, whichever rows they are read as (so it is a next room of the clause `once` of `tc_api::serve_one`)
     pub next : Leaves over_files last (λ ledger. ⊤)
         → (trees : Trees) × ∥ (file_state last).may_leave trees ∥₁ × ((ledger : Ledger) → IsTold ledger.image → HasRows trees ledger → OpensLeft over_files config moment ledger moves room)
 

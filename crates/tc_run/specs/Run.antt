@@ -1,5 +1,5 @@
 -- The run of a script: what is written for the lines that were read.
-use Rattle.std.specs.Prelude.{◌≡◌, ◌⊎◌, ℕ, Bool, true, false, if◌then◌else◌, IfSome, MatchBool, Option, List, [], ◌∷◌, ◌++◌, codes, length}
+use Rattle.std.specs.Prelude.{◌≡◌, ◌⊎◌, ℕ, Bool, true, false, if◌then◌else◌, MatchBool, Option, List, [], ◌∷◌, ◌++◌, codes, length}
 use Rattle.std.specs.List.{list_any}
 use Rattle.std.specs.Io.KnownBytes.{Appends}
 use Rattle.sqlite_trees.specs.declared.memory.MemStore.{MemStore}
@@ -28,7 +28,8 @@ use Rattle.tc_room.specs.Answers.{AnswersLine, AsksPlaces, RefusesWith}
 use Rattle.tc_room.specs.Joined.{HoldsBook, IsKept, Standing, desk_in}
 use Rattle.tc_room.specs.Loads.{FailsLoad, RoomLoad, SpellsLoading, loader_of}
 use Rattle.tc_room.specs.Replies.{ended, is_refused}
-use Rattle.tc_room.specs.Room.{FailsStore, IsJustOpened}
+use Rattle.tc_room.specs.Room.{FailsStore, IsJustOpened, LeavesDesk}
+use Rattle.tc_room.specs.Truth.{LeavesLink}
 use Rattle.tc_check.specs.Scripts.{IsLoadLine, is_skipped, script_lines}
 use Rattle.tc_closed.specs.Files.{FileAnswer, Gives, file_at}
 
@@ -52,10 +53,10 @@ exchanges echo (line ∷ lines) (reply ∷ replies) = exchange echo line (ended 
 
 -- in a room over any store
 module _ {S : Type 0} (g : Ghosts S) where
-  -- the text that was found at its path is loaded
+  -- the text that was found at its path is loaded, which leaves the link, the spacecraft and the mirror
   abbrev pub LoadsFile : Standing S → List ℕ → List FileAnswer → Reply → Standing S → Type 0
   LoadsFile old line files reply new =
-      (load : LoadLine) × (text : List ℕ) × IsLoadLine line load × (files ≡ file_at load.path text ∷ []) × RoomLoad g old (loader_of load) load.kind load.name text reply new
+      (load : LoadLine) × (text : List ℕ) × IsLoadLine line load × (files ≡ file_at load.path text ∷ []) × RoomLoad g old (loader_of load) load.kind load.name text reply new × LeavesLink old new
 
   -- a line that loads nothing asks for no file, and is answered by itself
   abbrev pub AnswersScriptLine : Standing S → List ℕ → List FileAnswer → Reply → Standing S → Type 0
@@ -104,6 +105,7 @@ module _ {S : Type 0} (g : Ghosts S) where
     pub written : Appends old new (ended reply)
     pub refusal : refused ≡ is_refused reply
     pub kept : IsKept start.desk.book
+    pub leaves : LeavesDesk g start after
 
   -- some first lines were taken, and these are left
   abbrev pub TakesFront : Standing S → List (List ℕ) → List FileAnswer → List Reply → Standing S → List (List ℕ) → Type 0
@@ -159,6 +161,8 @@ pub record RunsLines {S : Type 0} (g : Ghosts S) (echo : Bool) (start : Standing
   pub last : Reply
   pub taken : TakesLines g start (script_lines input) files replies end
   pub asked : AsksPlaces g end last after
+  -- the question leaves the desk as the lines left it
+  pub leaves : LeavesDesk g end after
   pub given : Gives gave gives files
   pub written : Appends old new (exchanges echo (answered (script_lines input)) replies ++ ended last)
   pub status_is : status ≡ status_of (replies ++ last ∷ [])
@@ -173,11 +177,7 @@ pub record RunsLines {S : Type 0} (g : Ghosts S) (echo : Bool) (start : Standing
   -- the numbers that are printed are those of the book
   pub told : (stored : List KeptAnswer) → HoldsBook g start stored → HasCleanDisk (state g after.tables) → TellsBook end.desk.book last
 
--- Of the text of a script, which is all that its reader held. Where that can be named, the text is it; of a real file it can not, and there is a text all the same.
-abbrev pub OfScript : Option (List ℕ) → (List ℕ → Type 0) → Type 0
-OfScript held Holds = (text : List ℕ) × IfSome held (λ bytes. bytes ≡ text) × Holds text
-
--- These bytes were read, and their lines run in a room that was just opened over a new database in memory.
+-- The lines of this text were run in a room that was just opened over a new database in memory.
 abbrev pub IsAnswered : Bool → configs.Config → List ℕ → ℕ → Option (List FileAnswer) → Option (List FileAnswer) → Option (List ℕ) → Option (List ℕ) → Type 0
 IsAnswered echo config input status gave gives old new =
     (start : Standing MemStore) × (after : Standing MemStore) × (run : RunsLines over_memory echo start input status gave gives old new after)

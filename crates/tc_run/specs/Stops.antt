@@ -20,7 +20,6 @@ use Rattle.tc_room.specs.Replies.{ended}
 use Rattle.tc_room.specs.Room.{IsJustOpened}
 use Rattle.tc_closed.specs.Files.{FileAnswer, Gives, none_at}
 use Rattle.tc_check.specs.Scripts.{IsLoadLine, is_skipped}
-use Rattle.tc_closed.specs.Scripts.{IsUnread}
 use Rattle.tc_run.specs.Run.{AnswersScriptLine, HasFailed, TakesFront, answered, exchange, exchanges}
 use Rattle.tc_closed.specs.declared.paths.PathFault.{PathFault}
 use Rattle.tc_closed.specs.declared.paths.PathFault.TheVariants as path_fault
@@ -106,6 +105,6 @@ pub record IsUnopened (config : configs.Config) (fault : ScriptFault) : Type 0 w
 -- kept where it stopped.
 abbrev pub Stops : Bool → configs.Config → ScriptFault → List (List ℕ) → Option (List FileAnswer) → Option (List FileAnswer) → Option (List ℕ) → Option (List ℕ) → Type 0
 Stops echo config fault lines gave gives old new =
-    ((IsUnread fault ⊎ IsUnopened config fault) × IsUntouched gave gives old new)
+    (IsUnopened config fault × IsUntouched gave gives old new)
     ⊎ ((start : Standing MemStore) × (after : Standing MemStore) × IsJustOpened over_memory config start
     × StopsAfter over_memory echo fault start lines gave gives old new after × KeepsPromise either (desk_in after))

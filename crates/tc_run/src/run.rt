@@ -1,17 +1,18 @@
 //! The run of a script.
-ghost use Rattle.std.specs.Prelude.{◌≡◌, ◌≢◌, ◌⊎◌, ℕ, if◌then◌else◌, List, [], ◌∷◌, Err, IfErr, IfOk, IfSome, false};
+ghost use Rattle.std.specs.Prelude.{◌≡◌, ◌⊎◌, ℕ, List, [], ◌∷◌, Err, IfErr, IfOk, false};
 ghost use Rattle.std.specs.Io.KnownBytes.{Appends};
 ghost use Rattle.std.specs.String.{string_bytes};
-ghost use Rattle.tc_types.specs.Counts.{counts_of, inner_of, no_counts};
+ghost use Rattle.tc_types.specs.Counts.{counts_of, inner_of};
 ghost use Rattle.tc_types.specs.Loads.{line_of};
 ghost use Rattle.tc_desk.specs.Replies.{Reply};
 ghost use Rattle.tc_room.specs.Answers.{RefusesWith};
 ghost use Rattle.tc_room.specs.Loads.{RoomLoad, loader_of};
 ghost use Rattle.tc_room.specs.Replies.{ended};
+ghost use Rattle.tc_room.specs.Truth.{LeavesLink};
 ghost use Rattle.tc_closed.specs.Files.{Gives, file_at, none_at};
 ghost use Rattle.tc_check.specs.Scripts.{is_skipped, script_lines};
-ghost use Rattle.tc_run.specs.Run.{Came, CameLast, IsAnswered, OfScript, RepliesTo, RunsLines, TakesLine, TakesLines, exchange};
-ghost use Rattle.tc_closed.specs.Scripts.{Ends, IsUnreadable, written_counts};
+ghost use Rattle.tc_run.specs.Run.{Came, CameLast, IsAnswered, RepliesTo, RunsLines, TakesLine, TakesLines, exchange};
+ghost use Rattle.tc_closed.specs.Scripts.{Ends};
 ghost use Rattle.tc_run.specs.Stops.{LeavesPart, Stops, StopsAfter, StopsNext, Unanswered};
 ghost use Rattle.tc_closed.specs.declared.paths.PathFault.TheVariants as path_fault;
 
@@ -19,11 +20,9 @@ use crate::moments::last_moment;
 use bstr::ByteSlice;
 use sqlite::Alter;
 use std::alloc::{AllocError, Global};
-use std::io::{Read, Write};
+use std::io::Write;
 use tc_check::is_skipped;
-use tc_closed::{
-    Answered, MOST_FILE_BYTES, PathFault, Paths, ScriptFault, Watch, put, read_script, status_of,
-};
+use tc_closed::{Answered, MOST_FILE_BYTES, PathFault, Paths, ScriptFault, Watch, put, status_of};
 use tc_lines::read::load_reader::read_load;
 use tc_room::{Answer, Room, answer_line, answer_load, answer_places};
 use tc_types::{Counted, Load};
@@ -34,37 +33,11 @@ use tc_world::Config;
 /// a stack or a procedure takes its text from this source of files; a path that gives none ends the run. Where it is watched with an echo, each line that is
 /// answered is written before its answer, behind `> `.
 ///
-/// The script is read whole before a line is run: where that fails, the writer is as it was. The reader and the writer
-/// begin to count here, so that a caller sees which of them failed. What the writer holds back is the caller's to flush.
+/// The writer begins to count here, so that a caller sees whether it failed. What it holds back is the caller's to flush.
 ///
-/// Before its first line a run ends with `Script` or `Memory`, where the script is not read, or with `Config`, `Memory` or `Tables`, where
-/// the desk is not opened; behind it with `Output` where a write fails, `Path` where the path of the next line gives no text, and `Memory` where
-/// that text or that of a reply finds none.
-pub fn run_script<R: Read, P: Paths, T: Watch, W: Write>(
-    alloc: Global,
-    config: Config,
-    reader: &mut Counted<R>,
-    paths: &mut P,
-    watch: &T,
-    writer: &mut Counted<W>,
-) -> Result<u8, ScriptFault>
-    requires unread { counts_of reader.old ≡ no_counts }
-    ensures answered { IfOk result (λ status. OfScript (R.remaining (inner_of reader.old)) (λ input.
-        IsAnswered (T.echoes watch.now) config input status (P.given paths.old) (P.given paths.new) (W.contents (inner_of writer.old)) (W.contents (inner_of writer.new)))) }
-    ensures stopped { IfErr result (λ fault. OfScript (R.remaining (inner_of reader.old)) (λ input.
-        Stops (T.echoes watch.now) config fault (script_lines input) (P.given paths.old) (P.given paths.new) (W.contents (inner_of writer.old)) (W.contents (inner_of writer.new)))) }
-    ensures script { result ≡ Err ScriptFault.Script →
-        IsUnreadable (counts_of reader.new) (R.remaining (inner_of reader.old)) (R.remaining (inner_of reader.new))
-        × (writer.new ≡ writer.old) }
-    ensures failed { (counts_of reader.new).faults ≢ 0 → result ≡ Err ScriptFault.Script }
-    ensures written { counts_of writer.old ≡ no_counts → counts_of writer.new ≡ written_counts result }
-{
-    let text = read_script(alloc, reader)?;
-    run_text(alloc, config, &text, paths, watch, writer)
-}
-
-/// Runs the lines of a script that was read.
-fn run_text<P: Paths, T: Watch, W: Write>(
+/// Before its first line a run ends with `Config`, `Memory` or `Tables`, where the desk is not opened; behind it with `Output` where a write fails, `Path` where the path
+/// of the next line gives no text, and `Memory` where that text or that of a reply finds none.
+pub fn run_script<P: Paths, T: Watch, W: Write>(
     alloc: Global,
     config: Config,
     text: &[u8],
@@ -111,6 +84,7 @@ fn answer_file<S: Alter + Drop, P: Paths>(
     ensures answered { IfOk result (λ answer. (reply : Reply) × (text : List ℕ) × RoomLoad S.Store room.old (loader_of (line_of load.now)) load.now.kind load.now.name text reply room.new
         × Gives (P.given paths.old) (P.given paths.new) (file_at load.now.path.now text ∷ [])
         × (string_bytes answer.text ≡ ended reply) × RefusesWith reply answer.refusal × (room.new.opened ≡ room.old.opened)) }
+    ensures link { LeavesLink room.old room.new }
     ensures fault { IfErr result (λ fault. (fault ≡ ScriptFault.Memory) ⊎ (fault ≡ ScriptFault.Path)) }
     // its path gave no text, and nothing happened
     ensures unread { result ≡ Err ScriptFault.Path → Gives (P.given paths.old) (P.given paths.new) (none_at load.now.path.now path_fault.Unreadable ∷ []) × (room.new ≡ room.old) }

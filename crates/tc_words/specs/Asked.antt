@@ -23,8 +23,8 @@ pub record Terms : Type 0 where
 -- A command with what it was given. Where a desk is made or opened, its window, its channel and how many items the rings of its links hold,
 -- where they are rings, and what stands for the moment of its opening; where it is kept in a file, that file. A run has a script, and whether each line is shown before its answer and all is
 -- told; a report what stands for FROM and TO; a backup the file that is copied to; a wall its file alone; a server its terms; a loop a script, the number of
--- the first line that it sends, and what a run has besides; a check what stands for KIND, and a file; octets the file of a profile, if one was given,
--- what stands for LAYER, and for HEX.
+-- the first line that it sends, whether all numbers have to be new, and what a run has besides; a check what stands for KIND, and a file; octets the file of a profile,
+-- if one was given, what stands for LAYER, and for HEX.
 pub data Asked : Type 0 where
   run : (script : Text) (window channel : ℕ) (ring : Option ℕ) (moment : Text) (echo verbose : Bool) → Asked
   run_kept : (script : Text) (window channel : ℕ) (ring : Option ℕ) (database moment : Text) (echo verbose : Bool) → Asked
@@ -34,7 +34,7 @@ pub data Asked : Type 0 where
   check : (kind file : Text) → Asked
   octets : (profile : Option Text) (layer hex : Text) → Asked
   serve : (database : Text) (terms : Terms) (window channel : ℕ) (ring : Option ℕ) (moment : Text) → Asked
-  loop : (database script : Text) (window channel : ℕ) (ring : Option ℕ) (moment : Text) (first : ℕ) (echo verbose : Bool) → Asked
+  loop : (database script : Text) (window channel : ℕ) (ring : Option ℕ) (moment : Text) (first : ℕ) (only_new echo verbose : Bool) → Asked
 
 -- ---- what the arguments were given
 
@@ -84,6 +84,10 @@ given_first rows = number_in 1 4294967295 1 (one_of (codes "first") rows)
 -- an option was given that has no value
 abbrev pub given_flag : Text → List Row → Bool
 given_flag id rows = nat_lt 0 (count_of id rows)
+
+-- whether the numbers of the lines have to be new
+abbrev pub given_only_new : List Row → Bool
+given_only_new rows = given_flag (codes "new") rows
 
 -- whether each line is to be shown before its answer
 abbrev pub given_echo : List Row → Bool
@@ -150,7 +154,7 @@ asked_serve rows = serve (given (codes "DB") rows) (given_terms rows) (given_win
 abbrev pub asked_loop : List Row → Asked
 asked_loop rows =
     loop (given (codes "DB") rows) (given (codes "SCRIPT") rows) (given_window rows) (given_channel rows) (given_ring rows) (given_moment rows)
-    (given_first rows) (given_echo rows) (given_verbose rows)
+    (given_first rows) (given_only_new rows) (given_echo rows) (given_verbose rows)
 
 -- what the command of this name was given
 abbrev pub asked_of : Text → List Row → Asked

@@ -142,6 +142,10 @@ first_rule = record (new_rule (codes "first")) {
   parser = Some (parser.Unsigned 1 4294967295);
 }
 
+-- --new: whether nothing is sent if a number of a line was used before
+abbrev pub only_new_rule : Rule
+only_new_rule = flag_rule (codes "new")
+
 -- ---- the commands, each of whose options stands at most once
 
 -- .. [--w N] [--vc N] [--ring N]
@@ -198,9 +202,13 @@ with_ends app = with_rule (with_rule (with_rule (with_rule app host_rule) until_
 abbrev pub serve_app : App
 serve_app = with_ends (with_desk bare_serve_app)
 
--- loop DB SCRIPT [--w N] [--vc N] [--ring N] [--at MOMENT] [--first N]
+-- .. [--first N] [--new]
+abbrev pub with_numbers : App → App
+with_numbers app = with_rule (with_rule app first_rule) only_new_rule
+
+-- loop DB SCRIPT [--w N] [--vc N] [--ring N] [--at MOMENT] [--first N] [--new]
 abbrev pub send_app : App
-send_app = with_rule (with_desk (with_rule (with_rule (new_app (codes "loop")) file_rule) script_rule)) first_rule
+send_app = with_numbers (with_desk (with_rule (with_rule (new_app (codes "loop")) file_rule) script_rule))
 
 abbrev pub loop_app : App
 loop_app = with_told send_app

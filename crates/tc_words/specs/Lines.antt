@@ -49,9 +49,9 @@ AsksFor (CheckScript file) asked = asked ≡ check script_word file.now
 AsksFor (Octets profile layer hex) asked = asked ≡ octets (option_map (λ path. path.now) profile) (layer_word layer) hex.now
 AsksFor (Serve database service config moment) asked =
     (begins : Text) × SpellsMoment moment begins × (asked ≡ serve database.now (terms_of service) config.window config.channel config.ring begins)
-AsksFor (Loop database script config moment first telling) asked =
+AsksFor (Loop database script config moment numbers telling) asked =
     (begins : Text) × SpellsMoment moment begins
-    × (asked ≡ loop database.now script.now config.window config.channel config.ring begins first telling.echo telling.verbose)
+    × (asked ≡ loop database.now script.now config.window config.channel config.ring begins numbers.first numbers.only_new telling.echo telling.verbose)
 
 -- what the desk of a line is made or opened with
 abbrev pub config_of : CommandLine → Option Config
@@ -64,7 +64,7 @@ config_of (Check kind file) = None
 config_of (CheckScript file) = None
 config_of (Octets profile layer hex) = None
 config_of (Serve database service config moment) = Some config
-config_of (Loop database script config moment first telling) = Some config
+config_of (Loop database script config moment numbers telling) = Some config
 
 -- a line asks for this, and what its desk is made or opened with may be chosen
 pub record IsLineFor (line : CommandLine) (asked : Asked) : Type 0 where
@@ -81,7 +81,7 @@ AsksOddWindow (wall database) = ⊥
 AsksOddWindow (check kind file) = ⊥
 AsksOddWindow (octets profile layer hex) = ⊥
 AsksOddWindow (serve database terms window channel ring moment) = window % 2 ≡ 1
-AsksOddWindow (loop database script window channel ring moment first echo verbose) = window % 2 ≡ 1
+AsksOddWindow (loop database script window channel ring moment first only_new echo verbose) = window % 2 ≡ 1
 
 -- a report is asked for, whose FROM or TO is this word, which spells no moment
 abbrev pub AsksNoMoment : Asked → Text → Type 0
@@ -93,7 +93,7 @@ abbrev pub AsksNoOpening : Asked → Text → Type 0
 AsksNoOpening (run script window channel ring moment echo verbose) word = (word ≡ moment) × SpellsNoMoment word
 AsksNoOpening (run_kept script window channel ring database moment echo verbose) word = (word ≡ moment) × SpellsNoMoment word
 AsksNoOpening (serve database terms window channel ring moment) word = (word ≡ moment) × SpellsNoMoment word
-AsksNoOpening (loop database script window channel ring moment first echo verbose) word = (word ≡ moment) × SpellsNoMoment word
+AsksNoOpening (loop database script window channel ring moment first only_new echo verbose) word = (word ≡ moment) × SpellsNoMoment word
 AsksNoOpening other word = ⊥
 
 -- a check is asked for, whose KIND is this word, which is that of no kind, and not that of a script

@@ -1,6 +1,6 @@
 //! The arguments of the commands: which have to be given, which values pass, and what stands where none is given.
 ghost use Rattle.std.specs.Prelude.{◌≡◌};
-ghost use Rattle.tc_words.specs.Commands.{channel_rule, checked_rule, copy_rule, count_rule, database_rule, echo_rule, end_when_stopped_rule, file_rule, first_rule, flag_rule, from_rule, hex_rule, host_rule, kind_rule, layer_rule, moment_rule, port_rule, profile_rule};
+ghost use Rattle.tc_words.specs.Commands.{channel_rule, checked_rule, copy_rule, count_rule, database_rule, echo_rule, end_when_stopped_rule, file_rule, first_rule, flag_rule, from_rule, hex_rule, host_rule, kind_rule, layer_rule, moment_rule, only_new_rule, port_rule, profile_rule};
 ghost use Rattle.tc_words.specs.Commands.{required_rule, ring_rule, script_rule, to_rule, until_eof_rule, verbose_rule, window_rule};
 
 use clap::builder::ValueParser;
@@ -314,4 +314,14 @@ pub(crate) fn first_arg<'a>(alloc: Global) -> Argument<'a>
                 "The number of the first line that is sent, and each line behind it has the next: 1 to 4294967295",
             ),
     }
+}
+
+pub(crate) fn only_new_arg<'a>(alloc: Global) -> Argument<'a>
+    ensures { result ≡ only_new_rule }
+{
+    flag_arg(
+        alloc,
+        "new",
+        "Send nothing, and end with status 1, if a number of a line was used before",
+    )
 }

@@ -4,7 +4,7 @@ ghost use Rattle.tc_words.specs.declared.lines.CommandLine.{CommandLine as SomeL
 ghost use Rattle.tc_words.specs.declared.lines.CommandLine.TheVariants.{Backup, Check, CheckScript, Loop, Octets, Report, Run, RunKept, Serve, Wall};
 
 use crate::layers::Layer;
-use crate::lines::{CommandLine, Service, Telling};
+use crate::lines::{CommandLine, Numbers, Service, Telling};
 use tc_types::{LoadKind, Moment};
 use tc_world::Config;
 
@@ -53,10 +53,10 @@ pub trait Program {
         script: &str,
         config: Config,
         moment: Moment,
-        first: u32,
+        numbers: Numbers,
         telling: Telling,
     ) -> u8
-        ensures { carries self.now (Loop database.entry script.entry config moment first telling) result };
+        ensures { carries self.now (Loop database.entry script.entry config moment numbers telling) result };
 }
 
 /// Carries out a command line: each desk is opened at the moment that the line has. Gives the exit status.
@@ -97,8 +97,8 @@ pub fn carry_out<P: Program>(program: &P, line: &CommandLine<'_>) -> u8
             script,
             config,
             moment,
-            first,
+            numbers,
             telling,
-        } => program.send(*database, *script, *config, *moment, *first, *telling),
+        } => program.send(*database, *script, *config, *moment, *numbers, *telling),
     }
 }

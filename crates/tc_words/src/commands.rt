@@ -2,13 +2,13 @@
 ghost use Rattle.std.specs.Prelude.{◌≡◌, [], IfErr, IfOk, OnOk, map, true};
 ghost use Rattle.clap.specs.Words.{HasKind, fault_of, kind_of, new_app, subcommand_of, subcommand_rows_of, takes, with_rule, with_subcommand};
 ghost use Rattle.tc_words.specs.Commands.{backup_app, bare_app, bare_serve_app, wall_app, check_app, desk_app, loop_app, octets_app, report_app, run_app, script_apps, send_app, serve_app};
-ghost use Rattle.tc_words.specs.Commands.{with_backup, with_wall, with_check, with_database, with_desk, with_ends, with_http, with_link, with_octets, with_told};
+ghost use Rattle.tc_words.specs.Commands.{with_backup, with_wall, with_check, with_database, with_desk, with_ends, with_http, with_link, with_numbers, with_octets, with_told};
 
 use crate::arguments::{
     Argument, channel_arg, checked_arg, copy_arg, count_arg, database_arg, echo_arg,
     end_when_stopped_arg, file_arg, first_arg, from_arg, hex_arg, host_arg, kind_arg, layer_arg,
-    lines_arg, moment_arg, port_arg, profile_arg, read_file_arg, ring_arg, script_arg, to_arg,
-    until_eof_arg, verbose_arg, window_arg,
+    lines_arg, moment_arg, only_new_arg, port_arg, profile_arg, read_file_arg, ring_arg,
+    script_arg, to_arg, until_eof_arg, verbose_arg, window_arg,
 };
 use clap::error::ErrorKind;
 use clap::{ArgMatches, Command};
@@ -316,5 +316,12 @@ fn send_command<'a>(alloc: Global) -> Result<Tree<'a>, AllocError>
     )
     .arg(file_arg(alloc))?
     .arg(script_arg(alloc))?;
-    with_desk(alloc, sending)?.arg(first_arg(alloc))
+    with_numbers(alloc, with_desk(alloc, sending)?)
+}
+
+/// With the options of the numbers of the lines that are sent.
+fn with_numbers<'a>(alloc: Global, command: Tree<'a>) -> Result<Tree<'a>, AllocError>
+    ensures { IfOk result (λ more. more ≡ with_numbers command.entry) }
+{
+    command.arg(first_arg(alloc))?.arg(only_new_arg(alloc))
 }

@@ -4,10 +4,10 @@ ghost use Rattle.clap.specs.Words.{first_of, found_of, one_of, rows_of};
 ghost use Rattle.tc_types.specs.Loads.{kind_word};
 ghost use Rattle.tc_types.specs.declared.loads.LoadKind.{LoadKind as SomeKind};
 ghost use Rattle.tc_world.specs.Config.{IsConfig, IsRing};
-ghost use Rattle.tc_words.specs.Asked.{SpellsMoment, SpellsNoMoment, given, given_channel, given_count, given_echo, given_first, given_flag, given_port, given_ring, given_terms, given_verbose, given_window, number_in, number_within};
+ghost use Rattle.tc_words.specs.Asked.{SpellsMoment, SpellsNoMoment, given, given_channel, given_count, given_echo, given_first, given_flag, given_only_new, given_port, given_ring, given_terms, given_verbose, given_window, number_in, number_within};
 ghost use Rattle.tc_words.specs.Lines.{terms_of};
 
-use crate::lines::{Service, Telling, UsageFault};
+use crate::lines::{Numbers, Service, Telling, UsageFault};
 use clap::ArgMatches;
 use tc_csv::instant;
 use tc_lines::read::readers;
@@ -140,11 +140,15 @@ pub(crate) fn service_of<'a>(matches: &ArgMatches<'a>) -> Service<'a>
     }
 }
 
-/// The number of the first line that is sent.
-pub(crate) fn first_number(matches: &ArgMatches<'_>) -> u32
-    ensures { result ≡ given_first (rows_of (found_of matches.now)) }
+/// The numbers of the lines that are sent.
+pub(crate) fn numbers_of(matches: &ArgMatches<'_>) -> Numbers
+    ensures first { result.first ≡ given_first (rows_of (found_of matches.now)) }
+    ensures only { result.only_new ≡ given_only_new (rows_of (found_of matches.now)) }
 {
-    number_of(matches, "first", 1, 4_294_967_295, 1)
+    Numbers {
+        first: number_of(matches, "first", 1, 4_294_967_295, 1),
+        only_new: has(matches, "new"),
+    }
 }
 
 /// What is to be told of the lines of a script.

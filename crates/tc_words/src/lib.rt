@@ -11,5 +11,5 @@ mod reading;
 
 pub use carrying::{Program, carry_out};
 pub use layers::Layer;
-pub use lines::{CommandLine, Service, Telling, UsageFault};
+pub use lines::{CommandLine, Numbers, Service, Telling, UsageFault};
 pub use reading::read_words;

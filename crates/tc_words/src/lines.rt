@@ -17,6 +17,15 @@ pub struct Telling {
     pub verbose: bool,
 }
 
+/// The numbers of the calls of a script's lines.
+#[derive(Clone, Copy, Debug, PartialEq, Eq)]
+pub struct Numbers {
+    /// The number of the first line that is sent, 1 to 4,294,967,295. Each line after it has the next.
+    pub first: u32,
+    /// Whether nothing is sent if one of them was used before.
+    pub only_new: bool,
+}
+
 /// How a desk is served over HTTP.
 #[derive(Clone, Copy, Debug, PartialEq, Eq)]
 pub struct Service<'a> {
@@ -99,13 +108,13 @@ pub enum CommandLine<'a> {
         moment: Moment,
     },
     /// Send the lines of the script at this path, or of the standard input where it is `-`, over HTTP to the desk that a database file keeps,
-    /// opened at a moment. The first that is sent has this number, 1 to 4,294,967,295, and each behind it the next.
+    /// opened at a moment, as the calls of these numbers.
     Loop {
         database: &'a str,
         script: &'a str,
         config: Config,
         moment: Moment,
-        first: u32,
+        numbers: Numbers,
         telling: Telling,
     },
 }

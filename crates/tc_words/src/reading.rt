@@ -7,7 +7,7 @@ ghost use Rattle.tc_words.specs.Lines.{IsFaultOf, IsLineFor, IsTold};
 
 use crate::commands::matches;
 use crate::given::{
-    config_of, first_number, path_of, service_of, spelled_kind, spelled_moment, spelled_opening,
+    config_of, numbers_of, path_of, service_of, spelled_kind, spelled_moment, spelled_opening,
     telling_of, text_of,
 };
 use crate::layers::spelled_layer;
@@ -194,7 +194,7 @@ fn loop_line_of<'a>(matches: &ArgMatches<'a>) -> Result<CommandLine<'a>, UsageFa
         script: text_of(matches, "SCRIPT"),
         config,
         moment,
-        first: first_number(matches),
+        numbers: numbers_of(matches),
         telling: telling_of(matches),
     })
 }

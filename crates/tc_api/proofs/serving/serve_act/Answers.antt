@@ -10,7 +10,7 @@ returns-in-Ok g c =
     let made = c.answer_served.ensures told.reply told.says in
     record {
       reply = told.reply;
-      makes = act_called g.S.Store _ _ _ (act_seen c.in-Ok.post) _ _ _ _ (ap act_outcome c.in-Ok.is) c.judge_act.ensures c.as_bytes-text.ensures.value told.made made.0;
+      makes = act_called g.S.Store _ _ _ (act_seen c.in-Ok.post) _ _ _ _ (ap act_outcome c.in-Ok.is) c.judge_act.ensures c.as_bytes-text.ensures.value told.made made.0 told.tells;
       text = made.1;
       opened = told.opened;
     }

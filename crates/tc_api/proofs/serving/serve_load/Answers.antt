@@ -10,7 +10,7 @@ returns-in-Ok g c =
     let made = c.answer_served.ensures told.reply told.says in
     record {
       reply = told.reply;
-      makes = load_called g.S.Store _ _ c.args.kind _ (load_seen c.in-Ok.post) _ _ _ _ _ (ap load_outcome c.in-Ok.is) c.judge_load.ensures c.as_bytes-name.ensures.value c.as_bytes-csv.ensures.value told.made made.0;
+      makes = load_called g.S.Store _ _ c.args.kind _ (load_seen c.in-Ok.post) _ _ _ _ _ (ap load_outcome c.in-Ok.is) c.judge_load.ensures c.as_bytes-name.ensures.value c.as_bytes-csv.ensures.value told.made made.0 told.tells;
       text = made.1;
       opened = told.opened;
     }

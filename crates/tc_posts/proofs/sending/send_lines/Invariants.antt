@@ -1,6 +1,7 @@
 use Rattle.std.proofs.Common.{◌≡◌, List, map, take}
 use Rattle.tc_posts.specs.Numbered.{shown}
-use Rattle.tc_posts.specs.Sending.{AreSent, Step, refuses}
+use Rattle.tc_posts.specs.Sending.{AreSent}
+use Rattle.tc_posts.specs.Steps.{Step, refuses}
 use Rattle.tc_posts.proofs.sending.send_lines.Given as goal
 
 abbrev pub invariant-loop-line : goal.invariant-loop-line

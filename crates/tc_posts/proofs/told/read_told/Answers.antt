@@ -14,4 +14,4 @@ returns-in_err-body-clause-untold c =
     let gone : c.from_residual.result ≡ Err c.in_err-body.field-0.0 = grind arith in
     let why : c.in_err-body.field-0.0 ≡ NoResponse = found_why _ _ _ _ c.ok_or.ensures.value none c.in_err-body.was in
     let missing = rw none at c.body_of.ensures.none in
-    rw (gone, why) (λ text refusal tells. missing tells.body tells.found tells.utf8)
+    rw (gone, why) (λ answer tells. missing tells.body tells.found tells.utf8)

@@ -13,13 +13,13 @@ use Rattle.tc_run.proofs.run.answer.Goals as goal
 pub returns-in-Ok-clause-answered : goal.returns-in-Ok-clause-answered
 returns-in-Ok-clause-answered g c =
     let short : HasLongAct c.args.line.now → ⊥ = loads_short c.args.line.now c.read_load.result c.in-Ok.load c.in-Ok.is c.read_load.ensures.too_long in
-    IfOk-weaker c.answer_file.result _ _ (λ answer h. record { reply = h.0; files = file_at c.in-Ok.load.path.now h.1 ∷ []; answers = inl (line_of c.in-Ok.load, h.1, (c.in-Ok.ensures.found, short), refl, h.2); given = h.3; text_is = h.4; refuses = h.5; opened = h.6 })
+    IfOk-weaker c.answer_file.result _ _ (λ answer h. record { reply = h.0; files = file_at c.in-Ok.load.path.now h.1 ∷ []; answers = inl (line_of c.in-Ok.load, h.1, (c.in-Ok.ensures.found, short), refl, h.2, c.answer_file.ensures.link); given = h.3; text_is = h.4; refuses = h.5; opened = h.6 })
     c.answer_file.ensures.answered
 
 pub returns-in-Ok-clause-unanswered : goal.returns-in-Ok-clause-unanswered
 returns-in-Ok-clause-unanswered g c =
     let short : HasLongAct c.args.line.now → ⊥ = loads_short c.args.line.now c.read_load.result c.in-Ok.load c.in-Ok.is c.read_load.ensures.too_long in
-    file_unanswered g.S.Store false _ _ c.args.line.now (line_of c.in-Ok.load) _ _ c.answer_file.result (c.in-Ok.ensures.found, short)
+    file_unanswered g.S.Store false _ _ c.args.line.now (line_of c.in-Ok.load) _ _ c.answer_file.result (c.in-Ok.ensures.found, short) c.answer_file.ensures.link
     c.answer_file.ensures.fault c.answer_file.ensures.unread c.answer_file.ensures.memory
 
 pub returns-in_err-answer_line-in-Err-clause-unanswered : goal.returns-in_err-answer_line-in-Err-clause-unanswered

@@ -28,4 +28,5 @@ returns g c =
       written = subst (λ (bytes : List ℕ). Appends (g.W.Write.contents (inner_of c.args.writer.now)) (g.W.Write.contents (inner_of c.put.new.writer)) bytes) (c.as_bytes.ensures.value ∙ h.says.0) c.in_ok-put.ensures.writes.written;
       refusal = c.refused.ensures h.reply h.says.2;
       kept = c.in_ok-last.ensures.kept;
+      leaves = c.in_ok-last.ensures.leaves;
     }) c.in_ok-put.ensures.counted

@@ -1,30 +1,24 @@
-use Rattle.std.proofs.Common.{inl, ap}
+use Rattle.std.proofs.Common.{inl}
 use Rattle.tc_room.specs.Calls.{ActsAnew}
-use Rattle.tc_room.proofs.OnceLemmas.{acts_over, call_again, call_anew, call_failed, calls_true_over, says_refused, says_same}
+use Rattle.tc_room.specs.Truth.{TellsTextTrue}
+use Rattle.tc_room.proofs.OnceLemmas.{acts_over, call_again, call_anew, call_failed}
 use Rattle.tc_room.proofs.LookLemmas.{keeps_anew, keeps_told}
 use Rattle.tc_room.proofs.StopLemmas.{stops_granted, stops_over, stops_told}
+use Rattle.tc_room.proofs.TruthLemmas.{link_same, text_over}
 use Rattle.tc_room.proofs.rooms.Room.act_called.Goals as goal
 
 pub returns-in-Err-clause-called : goal.returns-in-Err-clause-called
-returns-in-Err-clause-called g c = call_failed g.S.Store c.args.caller _ _ c.refused.result _ c.in-Err.refusal c.in-Err.ensures.answered c.refused.ensures.says c.kept_reply.ensures.looks.keeps.opened
-
-pub returns-in-Err-clause-acted : goal.returns-in-Err-clause-acted
-returns-in-Err-clause-acted g c = says_refused c.in-Err.refusal c.refused.result.answer _ c.refused.ensures.says
+returns-in-Err-clause-called g c = call_failed g.S.Store c.args.caller _ _ c.refused.result _ (λ reply new. TellsTextTrue c.args.text.now reply c.args.self.now new) c.in-Err.refusal c.in-Err.ensures.answered c.refused.ensures.says c.kept_reply.ensures.looks.keeps.opened (inl (link_same _ _ c.kept_reply.ensures.looks.leaves.desk))
 
 pub returns-in-Ok-Some-clause-called : goal.returns-in-Ok-Some-clause-called
 returns-in-Ok-Some-clause-called g c =
-    call_again g.S.Store c.args.caller _ _ c.granted.result _ c.in-Ok-Some.text (rw c.in-Ok-Some.field-0-is at c.in-Ok-Some.ensures.answered) c.in-Ok-Some.ensures.going.0 (rw c.in-Ok-Some.field-0-is at c.in-Ok-Some.ensures.text) c.granted.ensures.acts c.granted.ensures.says c.kept_reply.ensures.looks.keeps.opened
-
-pub returns-in-Ok-Some-clause-acted : goal.returns-in-Ok-Some-clause-acted
-returns-in-Ok-Some-clause-acted g c = says_same c.granted.result.answer _ (inl (ap (λ desk. desk.parts) c.kept_reply.ensures.looks.leaves.desk))
+    call_again g.S.Store c.args.caller _ _ c.granted.result _ (λ reply new. TellsTextTrue c.args.text.now reply c.args.self.now new) c.in-Ok-Some.text (rw c.in-Ok-Some.field-0-is at c.in-Ok-Some.ensures.answered) c.in-Ok-Some.ensures.going.0 (rw c.in-Ok-Some.field-0-is at c.in-Ok-Some.ensures.text) c.granted.ensures.acts c.granted.ensures.says c.kept_reply.ensures.looks.keeps.opened (λ reply. (inl (link_same _ _ c.kept_reply.ensures.looks.leaves.desk)))
 
 pub returns-in-Ok-None-clause-called : goal.returns-in-Ok-None-clause-called
 returns-in-Ok-None-clause-called g c =
-    call_anew g.S.Store c.args.caller _ _ _ c.ask_anew.result (λ old replies acts reply new. ActsAnew g.S.Store c.args.moment c.args.text.now replies c.args.caller old acts reply new) (rw c.in-Ok-None.field-0-is at c.in-Ok-None.ensures.answered) c.in-Ok-None.ensures.going.0 c.kept_reply.ensures.looks.keeps.opened c.ask_anew.ensures.keeps.clean
-    (λ replies acts reply. acts_over g.S.Store replies c.args.caller _ _ _ c.kept_reply.ensures.looks.leaves.desk c.args.moment c.args.text.now acts reply) c.ask_anew.ensures.called
-
-pub returns-in-Ok-None-clause-acted : goal.returns-in-Ok-None-clause-acted
-returns-in-Ok-None-clause-acted g c = calls_true_over _ _ _ c.args.text.now c.ask_anew.result c.kept_reply.ensures.looks.leaves.desk c.ask_anew.ensures.acted
+    call_anew g.S.Store c.args.caller _ _ _ c.ask_anew.result (λ old replies acts reply new. ActsAnew g.S.Store c.args.moment c.args.text.now replies c.args.caller old acts reply new) (λ old reply new. TellsTextTrue c.args.text.now reply old new) (rw c.in-Ok-None.field-0-is at c.in-Ok-None.ensures.answered) c.in-Ok-None.ensures.going.0 c.kept_reply.ensures.looks.keeps.opened c.ask_anew.ensures.keeps.clean
+    (λ replies acts reply. acts_over g.S.Store replies c.args.caller _ _ _ c.kept_reply.ensures.looks.leaves.desk c.args.moment c.args.text.now acts reply)
+    (λ reply. text_over _ _ _ c.kept_reply.ensures.looks.leaves.desk c.args.text.now reply) c.ask_anew.ensures.called
 
 pub returns-in-Err-clause-keeps : goal.returns-in-Err-clause-keeps
 returns-in-Err-clause-keeps g c =

@@ -1,14 +1,15 @@
 use Rattle.std.proofs.Common.{inl, inr, refl}
 use Rattle.tc_desk.specs.Replies.{refusal_reply}
-use Rattle.tc_room.proofs.OnceLemmas.{calls_true, judged_spells, says_refused, stays_so}
+use Rattle.tc_room.proofs.OnceLemmas.{judged_spells, stays_so}
 use Rattle.tc_room.proofs.StopLemmas.{act_text_low, stops_refused}
 use Rattle.tc_room.proofs.RoomLemmas.{kept_book}
+use Rattle.tc_room.proofs.TruthLemmas.{link_stays, text_true}
 use Rattle.tc_room.proofs.rooms.Room.ask_anew.Goals as goal
 
 pub returns-in-Ok-clause-called : goal.returns-in-Ok-clause-called
 returns-in-Ok-clause-called g c =
     let is = c.ask_once.ensures.called in
-    record { reply = is.reply; made = λ replies held clean. inr (c.in-Ok.line, c.in-Ok.ensures.judged, is.made replies held clean); says = is.says; opened = is.opened }
+    record { reply = is.reply; made = λ replies held clean. inr (c.in-Ok.line, c.in-Ok.ensures.judged, is.made replies held clean); says = is.says; opened = is.opened; tells = text_true c.args.text.now c.in-Ok.line.act is.reply _ _ (judged_spells c.args.text.now c.args.caller.by c.args.moment c.in-Ok.line c.in-Ok.ensures.judged) is.tells }
 
 pub returns-in-Err-clause-called : goal.returns-in-Err-clause-called
 returns-in-Err-clause-called g c =
@@ -17,14 +18,8 @@ returns-in-Err-clause-called g c =
       made = λ replies held clean. inl (c.in-Err.refusal, c.in-Err.ensures.judged, refl, stays_so g.S.Store replies _ c.requires.going held clean);
       says = c.refused.ensures.says;
       opened = refl;
+      tells = inl (link_stays _);
     }
-
-pub returns-in-Ok-clause-acted : goal.returns-in-Ok-clause-acted
-returns-in-Ok-clause-acted g c =
-    calls_true _ _ c.args.text.now c.ask_once.result c.in-Ok.line.act (judged_spells c.args.text.now c.args.caller.by c.args.moment c.in-Ok.line c.in-Ok.ensures.judged) c.ask_once.ensures.acted
-
-pub returns-in-Err-clause-acted : goal.returns-in-Err-clause-acted
-returns-in-Err-clause-acted g c = says_refused c.in-Err.refusal c.refused.result.answer _ c.refused.ensures.says
 
 pub returns-in-Ok-clause-keeps : goal.returns-in-Ok-clause-keeps
 returns-in-Ok-clause-keeps g c = c.ask_once.ensures.keeps

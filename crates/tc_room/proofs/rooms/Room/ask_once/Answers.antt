@@ -1,7 +1,8 @@
-use Rattle.std.proofs.Common.{◌≡◌, false, inl, inr, ap}
+use Rattle.std.proofs.Common.{◌≡◌, false, inl}
 use Rattle.tc_desk.specs.Acts.{is_question}
-use Rattle.tc_room.proofs.OnceLemmas.{acts_done, asks_told, no_question, says_more, says_same}
+use Rattle.tc_room.proofs.OnceLemmas.{acts_done, asks_told, no_question}
 use Rattle.tc_room.proofs.RoomLemmas.{kept_book}
+use Rattle.tc_room.proofs.TruthLemmas.{link_same}
 use Rattle.tc_room.proofs.rooms.Room.ask_once.Goals as goal
 
 pub do_once-requires-clause-acts : goal.do_once-requires-clause-acts
@@ -15,10 +16,8 @@ returns-in-Ask-clause-called g c =
       made = λ replies held clean. asks_told g.S.Store replies c.args.caller c.args.self.now c.args.line c.in-Ask.query told.reply c.answer_asked-answer.new.room c.in-Ask.is c.requires.going held clean told.made;
       says = told.says;
       opened = told.opened;
+      tells = inl (link_same _ _ c.answer_asked-answer.ensures.leaves.desk);
     }
-
-pub returns-in-Ask-clause-acted : goal.returns-in-Ask-clause-acted
-returns-in-Ask-clause-acted g c = says_same c.answer_asked-answer.result _ (inl (ap (λ desk. desk.parts) c.answer_asked-answer.ensures.leaves.desk))
 
 pub returns-in_default-clause-called : goal.returns-in_default-clause-called
 returns-in_default-clause-called g c =
@@ -29,10 +28,8 @@ returns-in_default-clause-called g c =
       made = λ replies held clean. let made = is.made replies held clean in acts_done g.S.Store replies c.args.caller _ c.args.line _ is.reply _ acts made.0 made.1;
       says = is.says;
       opened = is.opened;
+      tells = is.tells;
     }
-
-pub returns-in_default-clause-acted : goal.returns-in_default-clause-acted
-returns-in_default-clause-acted g c = says_more c.do_once.result.answer _ _ inr c.do_once.ensures.acted
 
 pub returns-in-Ask-clause-keeps : goal.returns-in-Ask-clause-keeps
 returns-in-Ask-clause-keeps g c = record { stops = (λ acts. absurd cc); promise = c.opened-opened.ensures.promise; kept = kept_book _ c.opened-opened.ensures.good; clean = c.answer_asked-answer.ensures.leaves.clean }

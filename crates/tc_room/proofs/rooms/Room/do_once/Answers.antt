@@ -1,5 +1,4 @@
 use Rattle.tc_desk.specs.Replies.{refusal_reply}
-use Rattle.tc_room.proofs.OnceLemmas.{says_refused, says_same}
 use Rattle.tc_room.proofs.StopLemmas.{stops_granted, stops_told}
 use Rattle.tc_room.proofs.rooms.Room.do_once.Goals as goal
 
@@ -8,25 +7,21 @@ returns-in-Ok-clause-called g c =
     let made = c.in-Ok.ensures.answered in
     record {
       reply = made.0;
-      made = λ replies held clean. (c.granted.ensures.acts, made.4 replies held clean);
+      made = λ replies held clean. (c.granted.ensures.acts, made.5 replies held clean);
       says = c.granted.ensures.says made.0 made.1 made.2 made.3;
       opened = c.act_kept.ensures.keeps.opened;
+      tells = made.4;
     }
 
 pub returns-in-Err-clause-called : goal.returns-in-Err-clause-called
 returns-in-Err-clause-called g c =
     record {
       reply = refusal_reply c.in-Err.refusal;
-      made = λ replies held clean. (c.refused.ensures.acts, c.in-Err.ensures.answered replies held clean);
+      made = λ replies held clean. (c.refused.ensures.acts, c.in-Err.ensures.answered.1 replies held clean);
       says = c.refused.ensures.says;
       opened = c.act_kept.ensures.keeps.opened;
+      tells = c.in-Err.ensures.answered.0;
     }
-
-pub returns-in-Ok-clause-acted : goal.returns-in-Ok-clause-acted
-returns-in-Ok-clause-acted g c = says_same c.granted.result.answer _ c.in-Ok.ensures.acted
-
-pub returns-in-Err-clause-acted : goal.returns-in-Err-clause-acted
-returns-in-Err-clause-acted g c = says_refused c.in-Err.refusal c.refused.result.answer _ c.refused.ensures.says
 
 pub returns-in-Ok-clause-keeps : goal.returns-in-Ok-clause-keeps
 returns-in-Ok-clause-keeps g c = record { stops = (λ acts. stops_granted _ _ _ _ c.granted.ensures.told c.in-Ok.ensures.keeps.stops); promise = c.act_kept.ensures.keeps.promise; kept = c.act_kept.ensures.keeps.kept; clean = c.act_kept.ensures.clean }

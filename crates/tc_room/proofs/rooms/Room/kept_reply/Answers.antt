@@ -30,11 +30,14 @@ returns-in-Err-clause-answered g c =
     (λ replies held clean.
     let has = held going (c.reply_of.ensures.reads.clean clean) in
     rw going (record {
-      reply = refl;
-      stopped = refl;
-      tables = λ is_open. read_kept g.S.Store c.self.inside.tables c.reply_of.new.self c.reply_of.result c.reply_of.ensures.reads clean is_open _ has;
-      crash = leaves_some g.S.Store c.reply_of.new.self _ _ (read_left g.S.Store c.self.inside.tables c.reply_of.new.self c.reply_of.result c.reply_of.ensures.reads clean _ has) (inl refl);
-      opened = refl;
+      fails = record {
+        reply = refl;
+        stopped = refl;
+        tables = λ is_open. read_kept g.S.Store c.self.inside.tables c.reply_of.new.self c.reply_of.result c.reply_of.ensures.reads clean is_open _ has;
+        crash = leaves_some g.S.Store c.reply_of.new.self _ _ (read_left g.S.Store c.self.inside.tables c.reply_of.new.self c.reply_of.result c.reply_of.ensures.reads clean _ has) (inl refl);
+        opened = refl;
+      };
+      desk = refl;
     }))
 
 pub returns-then-stopped-clause-looks : goal.returns-then-stopped-clause-looks

@@ -3,6 +3,7 @@ use Rattle.tc_desk.specs.Replies.{refusal_reply}
 use Rattle.tc_room.proofs.OnceLemmas.{stays_so}
 use Rattle.tc_room.proofs.StopLemmas.{stops_refused, unfit_low}
 use Rattle.tc_room.proofs.RoomLemmas.{kept_book}
+use Rattle.tc_room.proofs.TruthLemmas.{link_stays}
 use Rattle.tc_room.proofs.rooms.Room.load_anew.Goals as goal
 
 pub returns-in-Some-clause-called : goal.returns-in-Some-clause-called
@@ -17,6 +18,7 @@ returns-in-Some-clause-called g c =
       );
       says = is.says;
       opened = is.opened;
+      tells = is.tells;
     }
 
 pub returns-in-None-clause-called : goal.returns-in-None-clause-called
@@ -26,6 +28,7 @@ returns-in-None-clause-called g c =
       made = λ replies held clean. (c.refused.ensures.acts, inl (c.unfit.result, c.in-None.ensures, c.unfit.ensures, refl, stays_so g.S.Store replies _ c.requires.going held clean));
       says = c.refused.ensures.says;
       opened = refl;
+      tells = link_stays _;
     }
 
 pub returns-in-Some-clause-keeps : goal.returns-in-Some-clause-keeps

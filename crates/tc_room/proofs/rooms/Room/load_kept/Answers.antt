@@ -9,6 +9,7 @@ use Rattle.tc_room.proofs.RoomLemmas.{kept_book}
 use Rattle.tc_room.proofs.TableLemmas.{not_written}
 use Rattle.tc_room.proofs.StopLemmas.{load_told, stops_failed, stops_ok, stops_refused}
 use Rattle.tc_room.specs.Loads.{loading_of}
+use Rattle.tc_room.proofs.TruthLemmas.{link_loaded, link_refused}
 use Rattle.tc_room.proofs.rooms.Room.load_kept.Goals as goal
 
 pub returns-in_err-done-clause-answered : goal.returns-in_err-done-clause-answered
@@ -17,8 +18,9 @@ returns-in_err-done-clause-answered g c =
     let going : c.self.inside.stopped ≡ false = ap (λ (s : Standing _). s.stopped) c.self.view_is ∙ c.requires.going in
     let why = c.in_err-done.ensures.loads.answers in
     rw (gone, ← c.self.view_is)
-    (makes_refused g.S.Store _ _ c.args.caller _ _ _ (load_refused _ _ _ _ _ why)
-    (λ replies held clean. subst (λ (at : LinkState). HasLedger g.S.Store c.self.inside.tables (ledger_of at.book replies)) (sym why.same) (held going clean)) c.in_err-done.ensures.stays.opened going)
+    (let made = makes_refused g.S.Store _ _ c.args.caller _ _ _ (load_refused _ _ _ _ _ why)
+    (λ replies held clean. subst (λ (at : LinkState). HasLedger g.S.Store c.self.inside.tables (ledger_of at.book replies)) (sym why.same) (held going clean)) c.in_err-done.ensures.stays.opened going in
+    (link_refused _ _ _ _ _ why c.in_err-done.ensures.whole, made))
 
 pub returns-in-Some-clause-answered : goal.returns-in-Some-clause-answered
 returns-in-Some-clause-answered g c =
@@ -26,10 +28,11 @@ returns-in-Some-clause-answered g c =
     let loads = c.in_ok-done.ensures.loads in
     let granted = act_grants c.in_ok-done.done.first c.in_ok-done.done.said c.in_ok-done.done.moves.items in
     rw (← c.self.view_is)
-    (makes_done g.S.Store _ _ c.args.caller _ _ c.in-Some.text (reply_to c.in_ok-done.done) c.in-Some.ensures.text.0 c.in-Some.ensures.text.1 granted
+    (let made = makes_done g.S.Store _ _ c.args.caller _ _ (reply_to c.in_ok-done.done)
     (load_carried _ _ _ _ _ _ _ loads.answers loads.made.moves)
     (λ replies held clean. kept_done g.S.Store c.self.inside.tables c.write_done.new.tables c.self.inside.desk.parts.book _ replies c.args.caller (reply_to c.in_ok-done.done) c.in_ok-done.done.batch.items granted loads.made.batch c.write_done.ensures.crash clean (held going) (c.in-Some.ensures.written clean) (c.in-Some.ensures.durable clean))
-    c.in_ok-done.ensures.stays.opened going)
+    c.in_ok-done.ensures.stays.opened going in
+    (reply_to c.in_ok-done.done, c.in-Some.ensures.text.0, c.in-Some.ensures.text.1, granted, link_loaded _ _ _ _ _ _ loads.answers c.in_ok-done.ensures.whole, made))
 
 pub returns-clause-answered : goal.returns-clause-answered
 returns-clause-answered g c =
@@ -37,11 +40,12 @@ returns-clause-answered g c =
     let loads = c.in_ok-done.ensures.loads in
     let granted = act_grants c.in_ok-done.done.first c.in_ok-done.done.said c.in_ok-done.done.moves.items in
     rw (← c.self.view_is)
-    (makes_failed g.S.Store _ _ c.args.caller _ _ loads.answers.free refl
+    (let made = makes_failed g.S.Store _ _ c.args.caller _ _ loads.answers.free refl
     (λ replies held clean. not_written g.S.Store c.self.inside.tables c.write_done.new.tables (ledger_of c.self.inside.desk.parts.book replies) c.write_done.ensures.crash clean (λ was. (held going was).holds) (λ is_open. c.in-None.ensures.kept clean is_open refl))
     (λ replies held clean. leaves_done g.S.Store c.self.inside.tables c.write_done.new.tables c.self.inside.desk.parts.book _ replies c.args.caller (reply_to c.in_ok-done.done) c.in_ok-done.done.batch.items granted loads.made.batch c.write_done.ensures.crash clean (held going) _ (inl refl)
     (inr (_, _, load_carried _ _ _ _ _ _ _ loads.answers loads.made.moves, kept_book _ c.in_ok-done.ensures.stays.good, refl)))
-    c.in_ok-done.ensures.stays.opened)
+    c.in_ok-done.ensures.stays.opened in
+    (link_loaded _ _ _ _ _ _ loads.answers c.in_ok-done.ensures.whole, made))
 
 pub returns-in_err-done-clause-keeps : goal.returns-in_err-done-clause-keeps
 returns-in_err-done-clause-keeps g c =

@@ -1,20 +1,23 @@
 use Rattle.tc_room.specs.Calls.{LoadsAnew}
+use Rattle.tc_room.specs.Truth.{LeavesLink}
 use Rattle.tc_room.proofs.OnceLemmas.{call_again, call_anew, call_failed, loads_over}
 use Rattle.tc_room.proofs.LookLemmas.{keeps_anew, keeps_told}
 use Rattle.tc_room.proofs.StopLemmas.{stops_granted, stops_over, stops_told}
+use Rattle.tc_room.proofs.TruthLemmas.{link_over, link_same}
 use Rattle.tc_room.proofs.rooms.Room.load_once.Goals as goal
 
 pub returns-in-Err-clause-called : goal.returns-in-Err-clause-called
-returns-in-Err-clause-called g c = call_failed g.S.Store c.args.caller _ _ c.refused.result _ c.in-Err.refusal c.in-Err.ensures.answered c.refused.ensures.says c.kept_reply.ensures.looks.keeps.opened
+returns-in-Err-clause-called g c = call_failed g.S.Store c.args.caller _ _ c.refused.result _ (λ reply new. LeavesLink c.args.self.now new) c.in-Err.refusal c.in-Err.ensures.answered c.refused.ensures.says c.kept_reply.ensures.looks.keeps.opened (link_same _ _ c.kept_reply.ensures.looks.leaves.desk)
 
 pub returns-in-Ok-Some-clause-called : goal.returns-in-Ok-Some-clause-called
 returns-in-Ok-Some-clause-called g c =
-    call_again g.S.Store c.args.caller _ _ c.granted.result _ c.in-Ok-Some.text (rw c.in-Ok-Some.field-0-is at c.in-Ok-Some.ensures.answered) c.in-Ok-Some.ensures.going.0 (rw c.in-Ok-Some.field-0-is at c.in-Ok-Some.ensures.text) c.granted.ensures.acts c.granted.ensures.says c.kept_reply.ensures.looks.keeps.opened
+    call_again g.S.Store c.args.caller _ _ c.granted.result _ (λ reply new. LeavesLink c.args.self.now new) c.in-Ok-Some.text (rw c.in-Ok-Some.field-0-is at c.in-Ok-Some.ensures.answered) c.in-Ok-Some.ensures.going.0 (rw c.in-Ok-Some.field-0-is at c.in-Ok-Some.ensures.text) c.granted.ensures.acts c.granted.ensures.says c.kept_reply.ensures.looks.keeps.opened (λ reply. (link_same _ _ c.kept_reply.ensures.looks.leaves.desk))
 
 pub returns-in-Ok-None-clause-called : goal.returns-in-Ok-None-clause-called
 returns-in-Ok-None-clause-called g c =
-    call_anew g.S.Store c.args.caller _ _ _ c.load_anew.result (λ old replies acts reply new. LoadsAnew g.S.Store c.args.kind c.args.moment c.args.name.now c.args.csv.now replies c.args.caller old acts reply new) (rw c.in-Ok-None.field-0-is at c.in-Ok-None.ensures.answered) c.in-Ok-None.ensures.going.0 c.kept_reply.ensures.looks.keeps.opened c.load_anew.ensures.keeps.clean
-    (λ replies acts reply. loads_over g.S.Store replies c.args.caller _ _ _ c.kept_reply.ensures.looks.leaves.desk c.args.kind c.args.moment c.args.name.now c.args.csv.now acts reply) c.load_anew.ensures.called
+    call_anew g.S.Store c.args.caller _ _ _ c.load_anew.result (λ old replies acts reply new. LoadsAnew g.S.Store c.args.kind c.args.moment c.args.name.now c.args.csv.now replies c.args.caller old acts reply new) (λ old reply new. LeavesLink old new) (rw c.in-Ok-None.field-0-is at c.in-Ok-None.ensures.answered) c.in-Ok-None.ensures.going.0 c.kept_reply.ensures.looks.keeps.opened c.load_anew.ensures.keeps.clean
+    (λ replies acts reply. loads_over g.S.Store replies c.args.caller _ _ _ c.kept_reply.ensures.looks.leaves.desk c.args.kind c.args.moment c.args.name.now c.args.csv.now acts reply)
+    (λ reply. link_over _ _ _ c.kept_reply.ensures.looks.leaves.desk) c.load_anew.ensures.called
 
 pub returns-in-Err-clause-keeps : goal.returns-in-Err-clause-keeps
 returns-in-Err-clause-keeps g c =

@@ -7,6 +7,7 @@ use Rattle.tc_room.proofs.LoadLemmas.{load_carried, load_refused}
 use Rattle.tc_room.proofs.RoomLemmas.{kept_book}
 use Rattle.tc_room.proofs.StopLemmas.{load_told, stops_failed, stops_ok, stops_refused}
 use Rattle.tc_room.proofs.TableLemmas.{leaves_acts, not_written, written}
+use Rattle.tc_room.proofs.TruthLemmas.{link_loaded, link_refused}
 use Rattle.tc_room.proofs.rooms.Room.load_spelled.Goals as goal
 
 pub returns-in_err-loaded-clause-answered : goal.returns-in_err-loaded-clause-answered
@@ -58,3 +59,12 @@ returns-in-Ok-clause-keeps g c =
 
 pub returns-in-Err-clause-keeps : goal.returns-in-Err-clause-keeps
 returns-in-Err-clause-keeps g c = rw (← c.self.view_is) (record { stops = stops_failed _ _ _ refl refl; opened = c.in_ok-loaded.ensures.stays.opened; promise = c.in_ok-loaded.ensures.stays.promise; kept = kept_book _ c.in_ok-loaded.ensures.stays.good })
+
+pub returns-in_err-loaded-clause-link : goal.returns-in_err-loaded-clause-link
+returns-in_err-loaded-clause-link g c = rw (← c.self.view_is) (link_refused _ _ _ _ _ c.in_err-loaded.ensures.loads.answers c.in_err-loaded.ensures.whole)
+
+pub returns-in-Ok-clause-link : goal.returns-in-Ok-clause-link
+returns-in-Ok-clause-link g c = rw (← c.self.view_is) (link_loaded _ _ _ _ _ _ c.in_ok-loaded.ensures.loads.answers c.in_ok-loaded.ensures.whole)
+
+pub returns-in-Err-clause-link : goal.returns-in-Err-clause-link
+returns-in-Err-clause-link g c = rw (← c.self.view_is) (link_loaded _ _ _ _ _ _ c.in_ok-loaded.ensures.loads.answers c.in_ok-loaded.ensures.whole)

@@ -4,6 +4,7 @@ use Rattle.tc_room.specs.Loads.{loading_of}
 use Rattle.tc_room.proofs.OnceLemmas.{stays_so}
 use Rattle.tc_room.proofs.StopLemmas.{stops_granted, stops_refused, stops_told, unread_low}
 use Rattle.tc_room.proofs.RoomLemmas.{kept_book}
+use Rattle.tc_room.proofs.TruthLemmas.{link_stays}
 use Rattle.tc_room.proofs.rooms.Room.load_text.Goals as goal
 
 pub returns-in-Err-clause-called : goal.returns-in-Err-clause-called
@@ -13,6 +14,7 @@ returns-in-Err-clause-called g c =
       made = λ replies held clean. (c.refused.ensures.acts, inl (c.in-Err.refusal, c.in-Err.ensures.refused, refl, stays_so g.S.Store replies _ c.requires.going held clean));
       says = c.refused.ensures.says;
       opened = refl;
+      tells = link_stays _;
     }
 
 pub returns-in-Ok-load_kept-clause-called : goal.returns-in-Ok-load_kept-clause-called
@@ -20,9 +22,10 @@ returns-in-Ok-load_kept-clause-called g c =
     let made = c.in-Ok-load_kept.ensures.answered in
     record {
       reply = made.0;
-      made = λ replies held clean. (c.granted.ensures.acts, inr (loading_of c.args.name c.in-Ok.spelled, c.in-Ok.ensures.read c.args.name, made.4 replies held clean));
+      made = λ replies held clean. (c.granted.ensures.acts, inr (loading_of c.args.name c.in-Ok.spelled, c.in-Ok.ensures.read c.args.name, made.5 replies held clean));
       says = c.granted.ensures.says made.0 made.1 made.2 made.3;
       opened = c.load_kept.ensures.keeps.opened;
+      tells = made.4;
     }
 
 pub returns-clause-called : goal.returns-clause-called
@@ -31,10 +34,11 @@ returns-clause-called g c =
       reply = refusal_reply c.in-Err-load_kept.refusal;
       made = λ replies held clean. (
         c.refused-in-Err-load_kept.ensures.acts,
-        inr (loading_of c.args.name c.in-Ok.spelled, c.in-Ok.ensures.read c.args.name, c.in-Err-load_kept.ensures.answered replies held clean),
+        inr (loading_of c.args.name c.in-Ok.spelled, c.in-Ok.ensures.read c.args.name, c.in-Err-load_kept.ensures.answered.1 replies held clean),
       );
       says = c.refused-in-Err-load_kept.ensures.says;
       opened = c.load_kept.ensures.keeps.opened;
+      tells = c.in-Err-load_kept.ensures.answered.0;
     }
 
 pub returns-in-Err-clause-keeps : goal.returns-in-Err-clause-keeps

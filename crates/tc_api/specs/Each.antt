@@ -1,0 +1,53 @@
+-- The exchanges of a server, one after the other.
+use Rattle.std.specs.Prelude.{◌≡◌, ℕ, Bool, Option, Some, None, Result, List, [], ◌∷◌, ◌++◌, ⊤, map}
+use Rattle.sqlite_trees.specs.declared.store.Store.{Ghosts}
+use Rattle.tc_types.specs.declared.refusals.Refusal.{Refusal}
+use Rattle.tc_types.specs.Counts.{no_counts}
+use Rattle.tc_front.specs.Front.{Asked}
+use Rattle.tc_front.specs.Write.{Stream}
+use Rattle.tc_room.specs.Joined.{Standing}
+use Rattle.tc_api.specs.Exchange.{Exchanges}
+use Rattle.tc_api.specs.Kept.{KeepsRoom, ServesOne}
+
+-- what was told of a request with this text: all that was written of its response, why that is not whole, if it is not, and whether the desk has stopped
+pub record Dealt : Type 0 where
+  pub text : List ℕ
+  pub result : Result (Unit {0}) Refusal
+  pub response : List ℕ
+  pub stopped : Bool
+
+-- a list grows by these, where it is known
+abbrev pub Grows : {T : Type 0} → Option (List T) → Option (List T) → List T → Type 0
+Grows None new more = ⊤
+Grows (Some all) None more = ⊥
+Grows (Some all) (Some after) more = after ≡ all ++ more
+
+-- the text that came, if one did
+abbrev pub came_in : Option (List ℕ) → List (List ℕ)
+came_in None = []
+came_in (Some text) = text ∷ []
+
+-- One exchange over the text of a request, by a reader and a writer that were not used before, of which this was told. It is a step of `ServesAll`.
+pub record Deals {S : Type 0} (hosts : List (List ℕ)) (since : ℕ) (g : Ghosts S) (old : Standing S) (dealt : Dealt) (read : Option Asked) (new : Standing S) : Type 0 where
+  pub left : Stream
+  pub after : Stream
+  pub response : after.bytes ≡ Some dealt.response
+  pub exchange : Exchanges hosts since g dealt.result (record { bytes = Some dealt.text; counts = no_counts }) left old new (record { bytes = Some []; counts = no_counts }) after
+  pub serves : ServesOne g old read new
+  pub stopped : dealt.stopped ≡ new.stopped
+
+-- exchanges, one after the other, of which this was told
+abbrev pub DealsAll : {S : Type 0} → List (List ℕ) → ℕ → Ghosts S → Standing S → List Dealt → List (Option Asked) → Standing S → Type 0
+DealsAll hosts since g old [] [] new = new ≡ old
+DealsAll {S} hosts since g old (dealt ∷ others) (read ∷ reads) new = (next : Standing S) × Deals hosts since g old dealt read next × DealsAll hosts since g next others reads new
+DealsAll hosts since g old [] (read ∷ reads) new = ⊥
+DealsAll hosts since g old (dealt ∷ others) [] new = ⊥
+
+-- Each request that came made one exchange, in order, of which this was told, and the promise is kept after all of them.
+pub record ServesEach {S : Type 0} (hosts : List (List ℕ)) (since : ℕ) (g : Ghosts S) (had came : Option (List (List ℕ))) (old new : Option (List Dealt)) (start end : Standing S) : Type 0 where
+  pub dealt : List Dealt
+  pub reads : List (Option Asked)
+  pub texts : Grows had came (map (λ (d : Dealt). d.text) dealt)
+  pub told : Grows old new dealt
+  pub deals : DealsAll hosts since g start dealt reads end
+  pub keeps : KeepsRoom g start reads end

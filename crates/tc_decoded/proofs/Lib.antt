@@ -1,0 +1,4 @@
+pub mod AddedLemmas
+pub mod FrameAddedLemmas
+pub mod CltuAddedLemmas
+pub mod FaultLemmas

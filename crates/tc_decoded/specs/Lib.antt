@@ -1,0 +1,13 @@
+pub mod Names
+pub mod Places
+pub mod Rows
+pub mod LineTexts
+pub mod Tables
+pub mod Added
+pub mod Telecommands
+pub mod TcFrameLines
+pub mod ReportLines
+pub mod TmFrameLines
+pub mod CltuLines
+pub mod Decoded
+pub mod Faults
