@@ -6,8 +6,8 @@ from typing import NamedTuple
 
 from model.carriers import IDLE_DATA, NO_START
 from model.decoded_packets import packet_lines, telecommand_lines
-from model.decoded_rows import (Item, Part, Row, at_least, at_most, error_control, exactly, field, flag, given, heading, lines_of, octets_word, sequence_word, value_of,
-                                word_of)
+from model.decoded_rows import (Item, Part, Row, at_least, between, error_control, exactly, field, flag, given, heading, lines_of, octets_word, refused, sequence_word,
+                                value_of, word_of)
 from model.octets import MOST_CODEBLOCKS, MOST_FRAME, START, TAIL, frame_in, information, randomized, read_tc_frame, read_tm_frame
 from model.packets import whole_length
 from model.profiles import Profile
@@ -27,7 +27,8 @@ def frame_lines(profile: Profile, part: Part) -> list[str]:
 def frame_items(profile: Profile, part: Part, word: str) -> Iterator[Item]:
     """Returns the lines of a frame that is taken, or refused with a word."""
     octets, number = part.octets, len(part.octets)
-    yield heading(part, 0, "transfer frame", number, "Length", at_least(number, 6 + 2 * profile.tc_fecf) or at_most(number, MOST_FRAME))
+    whole = heading(part, 0, "transfer frame", number)
+    yield whole._replace(word="Length", must=between(6 + 2 * profile.tc_fecf, MOST_FRAME, octets_word)(number))
     yield field(part, "version", 0, 2, word="Version", must=exactly(0))
     bypass, control = value_of(octets, 2, 1), value_of(octets, 3, 1)
     yield field(part, "bypass flag", 2, 1, flag)
@@ -37,9 +38,10 @@ def frame_items(profile: Profile, part: Part, word: str) -> Iterator[Item]:
     yield field(part, "virtual channel", 16, 6, word="Channel", must=exactly(profile.tc_vcid))
     yield field(part, "frame length", 22, 10, word="Length", must=lambda value: "" if value + 1 == number else given(number))
     yield field(part, "frame sequence number", 32, 8, word="Content", must=exactly(0) if control else lambda value: "")
-    yield from command_items(profile, part, word) if control else data_items(profile, part, word)
+    yield from command_items(profile, part) if control else data_items(profile, part, word)
     if profile.tc_fecf:
         yield error_control(part, "frame error control")
+    yield from refused(word, whole)
 
 
 def data_items(profile: Profile, part: Part, word: str) -> Iterator[Item]:
@@ -50,9 +52,9 @@ def data_items(profile: Profile, part: Part, word: str) -> Iterator[Item]:
         yield field(part, "MAP", 42, 6, word="Content", must=exactly(profile.tc_map))
         begin = 6
     length = len(part.octets) - begin - 2 * profile.tc_fecf
-    if word == "Content":
+    if word:
         yield heading(part, begin, "packet", length, "Content", at_least(length, 1))
-    if word == "":
+    else:
         yield telecommand_lines(profile, part.from_octet(begin, length))
 
 
@@ -61,12 +63,12 @@ def command_word(value: int) -> str:
     return {0: "Unlock", 0x82: "Set V(R)"}.get(value, f"0x{value:02x}")
 
 
-def command_items(profile: Profile, part: Part, word: str) -> Iterator[Item]:
+def command_items(profile: Profile, part: Part) -> Iterator[Item]:
     """Returns the lines of the data field of a frame that brings a control command."""
     data = part.octets[5:len(part.octets) - 2 * profile.tc_fecf]
     fits = data == b"\0" or data[:2] == b"\x82\0" and len(data) == 3
     yield field(part, "control command", 40, 8, command_word, "Content", lambda value: "" if fits else "must be Unlock (00) or Set V(R) (82 00 V)")
-    if word == "" and len(data) == 3:
+    if len(data) == 3 and data[0] == 0x82:
         yield field(part, "V(R)", 56, 8)
 
 
@@ -106,7 +108,7 @@ def no_frame(part: Part) -> Iterator[Item]:
     """Returns the lines of information in which no frame stands."""
     number = len(part.octets)
     yield heading(part, 0, "transfer frame", number, "Length", at_least(number, 5))
-    yield field(part, "frame length", 22, 10, word="Length", must=lambda value: given(number))
+    yield field(part, "frame length", 22, 10, word="Length", must=lambda value: "" if value + 1 == number else given(number))
 
 
 # ---- telemetry transfer frames
@@ -120,7 +122,8 @@ def tm_lines(profile: Profile, part: Part) -> list[str]:
 def tm_items(profile: Profile, part: Part, word: str) -> Iterator[Item]:
     """Returns the lines of a telemetry transfer frame that is taken, or refused with a word."""
     number = len(part.octets)
-    yield heading(part, 0, "transfer frame", number, "Length", "" if number == profile.tm_length else f"must be {octets_word(profile.tm_length)}")
+    whole = heading(part, 0, "transfer frame", number)
+    yield whole._replace(word="Length", must=exactly(profile.tm_length, octets_word)(number))
     yield field(part, "version", 0, 2, word="Version", must=exactly(0))
     yield field(part, "spacecraft id", 2, 10, word="Spacecraft", must=exactly(profile.scid))
     yield field(part, "virtual channel", 12, 3)
@@ -134,10 +137,11 @@ def tm_items(profile: Profile, part: Part, word: str) -> Iterator[Item]:
     end, has_word = number - 2 * profile.tm_fecf, value_of(part.octets, 15, 1)
     if word == "":
         yield from field_items(profile, part, part.from_octet(6, end - 6 - 4 * has_word))
-    if has_word:
-        yield from control_word_items(part.from_octet(end - 4, 4))
+        if has_word:
+            yield from control_word_items(part.from_octet(end - 4, 4))
     if profile.tm_fecf:
         yield error_control(part, "frame error control")
+    yield from refused(word, whole)
 
 
 def field_items(profile: Profile, part: Part, data: Part) -> Iterator[Item]:

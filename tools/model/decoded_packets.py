@@ -3,11 +3,11 @@ standards (CCSDS 133.0-B; ECSS-E-ST-70-41C) over the plain octets, and asks the 
 """
 from collections.abc import Callable, Iterator
 
-from model.decoded_rows import (Item, Part, Row, at_least, at_most, between, error_control, exactly, field, flag, given, heading, hex4, lines_of, octets_word,
+from model.decoded_rows import (Item, Part, at_least, at_most, between, error_control, exactly, field, flag, given, heading, hex4, lines_of, octets_word, refused,
                                 sequence_word, type_word, value_of, word_of)
 from model.packets import (BARE, DELETE, FAILURES, IDLE_APID, INSERT, LAST_COUNT, MOST_DATA, MOST_INSERTED, MOST_SUMMARIZED, SCHEDULE, SHIFT, SHIFT_ALL, STEPS, SUCCESSES,
-                           Heard, Idle, read_report, read_telecommand, whole_length)
-from model.profiles import LAST_MOMENT, Profile
+                           SUMMARY, first_moment, last_moment, read_report, read_telecommand)
+from model.profiles import Profile
 
 SCHEDULE_SUBTYPES = (*BARE, INSERT, DELETE, SHIFT, SHIFT_ALL)
 OUTCOME_WORDS = ("completes", "completes in steps", "refuses", "start fails", "halts", "fails")
@@ -23,23 +23,34 @@ def packet_lines(profile: Profile, part: Part) -> list[str]:
     return report_lines(profile, part)
 
 
-def primary_header(part: Part, kind: int, words: dict[str, str], most_apid: int) -> Iterator[Item]:
-    """Returns the lines of the primary header of a packet of a kind. `words` has a reader's word for each field of which it asks something."""
-    number = len(part.octets)
-    yield field(part, "packet version", 0, 3, word=words["version"], must=exactly(0))
-    yield field(part, "packet type", 3, 1, type_word, words["header"], exactly(kind, type_word))
-    yield field(part, "secondary header flag", 4, 1, flag, words["header"], exactly(1, flag))
-    yield field(part, "APID", 5, 11, word=words["header"], must=between(0, most_apid))
-    yield field(part, "sequence flags", 16, 2, sequence_word, words["header"], exactly(3, sequence_word))
+def request_id(part: Part, kind: int, version_word: str, word: str, most_apid: int) -> Iterator[Item]:
+    """Returns the lines of the first four octets of a packet of a kind, with the reader's words for its version and for the other fields."""
+    yield field(part, "packet version", 0, 3, word=version_word, must=exactly(0))
+    yield field(part, "packet type", 3, 1, type_word, word, exactly(kind, type_word))
+    yield field(part, "secondary header flag", 4, 1, flag, word, exactly(1, flag))
+    yield field(part, "APID", 5, 11, word=word, must=between(0, most_apid))
+    yield field(part, "sequence flags", 16, 2, sequence_word, word, exactly(3, sequence_word))
     yield field(part, "sequence count", 18, 14)
-    if "length" in words:
-        yield field(part, "packet data length", 32, 16, word=words["length"], must=lambda value: "" if value + 7 == number else given(number))
+
+
+def primary_header(part: Part, least: int, kind: int, version_word: str, most_apid: int) -> Iterator[Item]:
+    """Returns the lines of the primary header of a packet of a kind, which has a least number of octets."""
+    number = len(part.octets)
+    yield heading(part, 0, "packet", number, "Length", at_least(number, least))
+    yield from request_id(part, kind, version_word, "Header", most_apid)
+    yield field(part, "packet data length", 32, 16, word="Length", must=lambda value: "" if value + 7 == number else given(number))
 
 
 def telecommand_lines(profile: Profile, part: Part) -> list[str]:
     """Returns the lines of a telecommand packet."""
     word = word_of(lambda: read_telecommand(profile, part.octets))
-    return lines_of(telecommand_items(profile, part, word), word)
+    return lines_of(telecommand_items(profile, part, word, False), word)
+
+
+def activity_lines(profile: Profile, part: Part) -> list[str]:
+    """Returns the lines of the packet of an activity, which is a plain request's."""
+    word = word_of(lambda: read_telecommand(profile, part.octets))
+    return lines_of(telecommand_items(profile, part, word, True), word)
 
 
 def subtype_must(service: int) -> Callable[[int], str]:
@@ -49,23 +60,24 @@ def subtype_must(service: int) -> Callable[[int], str]:
     return lambda value: "" if value in SCHEDULE_SUBTYPES else "must be 1, 2, 3, 4, 5, 7, 15 or 17"
 
 
-def telecommand_items(profile: Profile, part: Part, word: str) -> Iterator[Item]:
-    """Returns the lines of a telecommand packet that is taken, or refused with a word."""
-    number = len(part.octets)
-    yield heading(part, 0, "packet", number, "Length", at_least(number, 13))
-    yield from primary_header(part, 1, {"version": "Header", "header": "Header", "length": "Length"}, IDLE_APID - 1)
+def telecommand_items(profile: Profile, part: Part, word: str, is_plain: bool) -> Iterator[Item]:
+    """Returns the lines of a telecommand packet that is taken, or refused with a word. One that has to be plain has the lines of a plain request."""
+    yield from primary_header(part, 13, 1, "Header", IDLE_APID - 1)
     yield field(part, "PUS version", 48, 4, word="Header", must=exactly(2))
     for bit, name in enumerate(("completion", "progress", "start", "acceptance"), 52):
         yield field(part, f"{name} acknowledgement", bit, 1, flag)
-    service = value_of(part.octets, 56, 8)
+    service, subtype = value_of(part.octets, 56, 8), value_of(part.octets, 64, 8)
     yield field(part, "service type", 56, 8, word="Subtype", must=between(1, 255))
     yield field(part, "message subtype", 64, 8, word="Subtype", must=subtype_must(service))
     yield field(part, "source id", 72, 16, word="Header", must=exactly(profile.source))
-    if word in ("", "Data"):
-        subtype = value_of(part.octets, 64, 8)
-        data = part.from_octet(11, number - 13)
-        yield from plain_items(profile, data) if service != SCHEDULE else schedule_items(profile, data, subtype)
+    data = Part(part.octets[11:], lambda index: part.place(11 + index))
+    number = len(part.octets) - 13
+    if is_plain or service != SCHEDULE:
+        yield from plain_items(profile, data, number)
+    else:
+        yield from schedule_items(profile, data, number, subtype, word)
     yield error_control(part, "packet error control")
+    yield from refused(word, heading(data, 0, "application data", number))
 
 
 def outcome_word(value: int) -> str:
@@ -73,31 +85,35 @@ def outcome_word(value: int) -> str:
     return OUTCOME_WORDS[value] if value < len(OUTCOME_WORDS) else str(value)
 
 
-def plain_items(profile: Profile, data: Part) -> Iterator[Item]:
-    """Returns the lines of the application data of a plain request."""
-    number = len(data.octets)
-    length = number - 3 if profile.rehearsal and number >= 3 else number
-    yield heading(data, 0, "application data", length, "Data", at_most(length, MOST_DATA))
-    if not profile.rehearsal:
-        return
-    if number < 3:
+def plain_items(profile: Profile, data: Part, number: int) -> Iterator[Item]:
+    """Returns the lines of so many octets of application data of a plain request."""
+    if profile.rehearsal and number < 3:
         yield heading(data, 0, "outcome", number, "Data", at_least(number, 3))
         return
-    kind, bit = data.octets[length], 8 * length
-    yield field(data, "outcome", bit, 8, outcome_word, "Data", between(COMPLETES, len(OUTCOME_WORDS) - 1, outcome_word))
-    yield field(data, "steps", bit + 8, 8, word="Data", must=between(1, 9) if kind in (IN_STEPS, HALTS) else exactly(0))
-    yield field(data, "failure code", bit + 16, 8, word="Data", must=exactly(0) if kind in (COMPLETES, IN_STEPS) else between(16, 255))
+    length = number - 3 * profile.rehearsal
+    yield heading(data, 0, "application data", length, "Data", at_most(length, MOST_DATA))
+    if profile.rehearsal:
+        kind, bit = value_of(data.octets, 8 * length, 8), 8 * length
+        yield field(data, "outcome", bit, 8, outcome_word, "Data", between(COMPLETES, len(OUTCOME_WORDS) - 1, outcome_word))
+        yield field(data, "steps", bit + 8, 8, word="Data", must=between(1, 9) if kind in (IN_STEPS, HALTS) else exactly(0))
+        yield field(data, "failure code", bit + 16, 8, word="Data", must=exactly(0) if kind in (COMPLETES, IN_STEPS) else between(16, 255))
 
 
-def seconds_items(profile: Profile, data: Part, index: int, name: str, is_offset: bool = False, word: str = "") -> Iterator[Item]:
-    """Returns the lines of a time or an offset, with its fraction if the profile has one."""
-    def shown(value: int) -> int:
-        return value - (value >> 31 << 32) if is_offset else value + profile.time_epoch
+def number_word(value: int) -> str:
+    """Shows a number."""
+    return str(value)
 
-    def must(value: int) -> str:
-        return between(0, LAST_MOMENT)(shown(value)) if word else ""
 
-    yield field(data, name, 8 * index, 32, lambda value: str(shown(value)), word, must)
+def offset_word(value: int) -> str:
+    """Shows an offset, in two's complement."""
+    return str(value - (value >> 31 << 32))
+
+
+def time_items(profile: Profile, data: Part, index: int, name: str) -> Iterator[Item]:
+    """Returns the lines of a time or an offset, with its fraction if the profile has one. A release time has to be one of those that the desk has."""
+    may = between(first_moment(profile) - profile.time_epoch, last_moment(profile) - profile.time_epoch)
+    shown = offset_word if name == "time offset" else number_word
+    yield field(data, name, 8 * index, 32, shown, "Data", may if name == "release time" else lambda value: "")
     if profile.time_fine:
         yield field(data, "fraction", 8 * index + 32, 16, hex4)
 
@@ -110,48 +126,35 @@ def name_items(profile: Profile, data: Part, index: int, is_ours: bool) -> Itera
     yield field(data, "sequence count", bit + 32, 16, word="Data", must=between(0, LAST_COUNT))
 
 
-def schedule_items(profile: Profile, data: Part, subtype: int) -> Iterator[Item]:
-    """Returns the lines of the application data of a command of the schedule."""
-    number, fine = len(data.octets), profile.time_fine
+def schedule_items(profile: Profile, data: Part, number: int, subtype: int, word: str) -> Iterator[Item]:
+    """Returns the lines of so many octets of application data of a command of the schedule."""
     if subtype == INSERT:
-        yield from insert_items(profile, data)
+        yield heading(data, 0, "application data", number, "Data", at_least(number, 1))
+        yield field(data, "number of activities", 0, 8, word="Data", must=between(1, MOST_INSERTED))
+        if word in ("", "Data"):
+            yield from insert_items(profile, data.from_octet(0, number), word)
         return
-    length = {DELETE: 7, SHIFT: 11 + fine, SHIFT_ALL: 4 + fine}.get(subtype, 0)
-    if number or length:
-        yield heading(data, 0, "application data", number, "Data", "" if number == length else f"must be {octets_word(length)}")
+    length = {DELETE: 7, SHIFT: 11 + profile.time_fine, SHIFT_ALL: 4 + profile.time_fine}.get(subtype, 0)
+    yield heading(data, 0, "application data", number, "Data", exactly(length, octets_word)(number))
     if subtype in (SHIFT, SHIFT_ALL):
-        yield from seconds_items(profile, data, 0, "time offset", is_offset=True)
+        yield from time_items(profile, data, 0, "time offset")
     if subtype in (DELETE, SHIFT):
         begin = length - 7
         yield field(data, "number of names", 8 * begin, 8, word="Data", must=exactly(1))
         yield from name_items(profile, data, begin + 1, True)
 
 
-def no_field(data: Part, name: str) -> Row:
-    """Returns the fault of data that are wrong in a way that no field shows."""
-    return heading(data, 0, name, len(data.octets), "Data", "must be as the request has them")
-
-
-def insert_items(profile: Profile, data: Part) -> Iterator[Item]:
-    """Returns the lines of the activities of an insert, as far as they can be read."""
-    octets, head = data.octets, 4 + profile.time_fine
-    if octets:
-        yield field(data, "number of activities", 0, 8, word="Data", must=between(1, MOST_INSERTED))
-        at = 1
-        for _ in range(octets[0]):
-            if len(octets) < at + head:
-                break
-            yield from seconds_items(profile, data, at, "release time", word="Data")
-            length = whole_length(octets[at + head:]) or len(octets) + 1
-            activity = data.from_octet(at + head, length)
-            if len(octets) < at + head + length or word_of(lambda: read_telecommand(profile, activity.octets)) or activity.octets[7] == SCHEDULE:
-                break
-            yield telecommand_lines(profile, activity)
-            at += head + length
-        else:
-            if at == len(octets):
-                return
-    yield no_field(data, "application data")
+def insert_items(profile: Profile, data: Part, word: str) -> Iterator[Item]:
+    """Returns the lines of the activities of an insert. One that is cut is a fault, and the last; a release time and a packet are judged by themselves."""
+    octets, head, at = data.octets, 4 + profile.time_fine, 1
+    for _ in range(octets[0]):
+        length = head + value_of(octets, 8 * (at + head + 4), 16) + 7
+        if len(octets) < at + length:
+            yield lines_of(iter([heading(data, at, "activity", len(octets) - at, "Data", at_least(len(octets) - at, length))]), "Data")
+            return
+        yield lines_of(time_items(profile, data, at, "release time"), word)
+        yield activity_lines(profile, data.from_octet(at + head, length - head))
+        at += length
 
 
 # ---- telemetry packets
@@ -164,13 +167,12 @@ def report_lines(profile: Profile, part: Part) -> list[str]:
 
 def report_items(profile: Profile, part: Part, word: str) -> Iterator[Item]:
     """Returns the lines of a telemetry packet that is taken, or refused with a word."""
-    octets, number, head = part.octets, len(part.octets), 17 + profile.time_fine
-    least = head + 2 if number >= 7 and whole_length(octets) == number else 7
-    yield heading(part, 0, "packet", number, "Length", at_least(number, least))
-    yield from primary_header(part, 0, {"version": "Version", "header": "Header", "length": "Length"}, IDLE_APID)
-    read = read_report(profile, octets) if word == "" else None
-    if isinstance(read, Idle):
+    number, head = len(part.octets), 17 + profile.time_fine
+    is_idle = value_of(part.octets, 5, 11) == IDLE_APID
+    yield from primary_header(part, 7 if is_idle else head + 2, 0, "Version", IDLE_APID)
+    if is_idle:
         yield heading(part, 6, "idle data", number - 6)
+        yield from refused(word, heading(part, 0, "packet", number))
         return
     yield field(part, "PUS version", 48, 4, word="Header", must=exactly(2))
     yield field(part, "time reference status", 52, 4)
@@ -178,22 +180,30 @@ def report_items(profile: Profile, part: Part, word: str) -> Iterator[Item]:
     yield field(part, "message subtype", 64, 8)
     yield field(part, "message type counter", 72, 16)
     yield field(part, "destination id", 88, 16)
-    yield from seconds_items(profile, part, 13, "time")
-    if word in ("", "Data"):
-        data = part.from_octet(head, number - head - 2)
-        if word == "" and not isinstance(read, Heard):
-            yield heading(data, 0, "source data", len(data.octets))
-        else:
-            yield from verification_items(data, octets[8]) if octets[7] == 1 else summary_items(profile, data)
+    yield from time_items(profile, part, 13, "time")
+    data = Part(part.octets[head:], lambda index: part.place(head + index))
+    yield from source_items(profile, part, data, number - head - 2)
     yield error_control(part, "packet error control")
+    yield from refused(word, heading(data, 0, "source data", number - head - 2))
 
 
-def verification_items(data: Part, subtype: int) -> Iterator[Item]:
-    """Returns the lines of the source data of a report of service 1."""
-    number = len(data.octets)
-    least = 4 + (subtype in STEPS) + (subtype in FAILURES)
-    yield heading(data, 0, "source data", number, "Data", at_least(number, least) or (at_most(number, least) if subtype in SUCCESSES else ""))
-    yield from primary_header(data, 1, {"version": "Data", "header": "Data"}, IDLE_APID - 1)
+def source_items(profile: Profile, part: Part, data: Part, number: int) -> Iterator[Item]:
+    """Returns the lines of so many octets of source data: those of a report that the desk reads, or that they are there."""
+    service, subtype = value_of(part.octets, 56, 8), value_of(part.octets, 64, 8)
+    is_ours = value_of(part.octets, 88, 16) == profile.source
+    if is_ours and service == 1 and subtype in (*SUCCESSES, *FAILURES):
+        yield from verification_items(data, number, subtype)
+    elif is_ours and (service, subtype) == (SCHEDULE, SUMMARY):
+        yield from summary_items(profile, data, number)
+    else:
+        yield heading(data, 0, "source data", number)
+
+
+def verification_items(data: Part, number: int, subtype: int) -> Iterator[Item]:
+    """Returns the lines of so many octets of source data of a report of service 1. Octets after the code of a failure are ignored."""
+    length = 4 + (subtype in STEPS) + (subtype in FAILURES)
+    yield heading(data, 0, "source data", number, "Data", at_least(number, length) if subtype in FAILURES else exactly(length, octets_word)(number))
+    yield from request_id(data, 1, "Data", "Data", IDLE_APID - 1)
     if subtype in STEPS:
         yield field(data, "step", 32, 8)
     if subtype in FAILURES:
@@ -205,21 +215,14 @@ def status_word(value: int) -> str:
     return ("disabled", "enabled")[value] if value < 2 else str(value)
 
 
-def summary_items(profile: Profile, data: Part) -> Iterator[Item]:
-    """Returns the lines of the source data of a summary, as far as they can be read."""
-    octets, size = data.octets, 10 + profile.time_fine
-    if octets:
-        yield field(data, "number of activities", 0, 8, word="Data", must=between(0, MOST_SUMMARIZED))
-        number = octets[0]
-        for at in range(1, 1 + number * size, size):
-            if len(octets) < at + size:
-                break
-            yield from seconds_items(profile, data, at, "release time", word="Data")
-            yield from name_items(profile, data, at + size - 6, False)
-        else:
-            left = len(octets) - 1 - number * size
-            if left == 1:
-                yield field(data, "schedule status", 8 * (len(octets) - 1), 8, status_word, "Data", between(0, 1, status_word))
-            if left <= 1:
-                return
-    yield no_field(data, "source data")
+def summary_items(profile: Profile, data: Part, number: int) -> Iterator[Item]:
+    """Returns the lines of so many octets of source data of a summary."""
+    size, count = 10 + profile.time_fine, value_of(data.octets, 0, 8)
+    length = 1 + count * size
+    yield heading(data, 0, "source data", number, "Data", between(length, length + 1, octets_word)(number))
+    yield field(data, "number of activities", 0, 8, word="Data", must=between(0, MOST_SUMMARIZED))
+    for at in range(1, length, size):
+        yield from time_items(profile, data, at, "release time")
+        yield from name_items(profile, data, at + size - 6, False)
+    if number == length + 1:
+        yield field(data, "schedule status", 8 * length, 8, status_word, "Data", between(0, 1, status_word))

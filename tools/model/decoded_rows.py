@@ -18,7 +18,7 @@ class Part(NamedTuple):
 
 
 class Row(NamedTuple):
-    """A line about a field or a count. Where the reader refuses the layer with `word`, it is the fault unless it fits: `must` says what would fit."""
+    """A line about a field or a count. If the reader refuses the layer with `word`, it is the fault unless it fits: `must` says what would fit."""
     place: int
     name: str
     value: str
@@ -54,6 +54,12 @@ def word_of(read: Callable[[], object]) -> str:
 
 # ---- fields
 
+def refused(word: str, row: Row) -> Iterator[Row]:
+    """Returns the last row of a layer that its reader refuses: it is the fault if no row before it is."""
+    if word:
+        yield row._replace(word=word, must="must be as the link has them")
+
+
 def octets_word(number: int) -> str:
     """Spells a count of octets."""
     return "1 octet" if number == 1 else f"{number} octets"
@@ -85,10 +91,10 @@ def hex4(value: int) -> str:
 
 
 def value_of(octets: bytes, bit: int, bits: int) -> int:
-    """Returns the number in some bits, of which the first has this index."""
+    """Returns the number in some bits, of which the first has this index. Octets that lack are taken as 0."""
     end = bit + bits
-    last = -(-end // 8)
-    return int.from_bytes(octets[:last], "big") >> (8 * last - end) & (1 << bits) - 1
+    first, last = bit // 8, -(-end // 8)
+    return int.from_bytes(octets[first:last].ljust(last - first, b"\0"), "big") >> (8 * last - end) & (1 << bits) - 1
 
 
 def filled(bit: int, bits: int) -> int:
