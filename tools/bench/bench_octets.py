@@ -61,7 +61,7 @@ def main() -> int:
     """Prints the table. The status is 1 if an answer is not the plain one."""
     parser = argparse.ArgumentParser(description=__doc__, formatter_class=argparse.RawDescriptionHelpFormatter)
     parser.add_argument("--program", metavar="PATH", default=BUILT, help="the program that is run")
-    parser.add_argument("--lines", metavar="N", type=int, default=2000, help="how many lines it reads")
+    parser.add_argument("--lines", metavar="N", type=int, default=10000, help="how many lines it reads")
     asked = parser.parse_args()
     print("| What is read | Octets | Lines printed | Microseconds | MB/s |\n|---|---|---|---|---|")
     for row in rows():

@@ -65,6 +65,7 @@ commands=(
     "board kept.db"
     "check stack examples/stack.csv"
     "check procedure examples/stack.csv"
+    "octets frame 30010c070000416f"
     "loop other.db examples/first-run.tc"
     "--help"
     "run --help"
