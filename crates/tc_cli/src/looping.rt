@@ -203,13 +203,13 @@ impl<S: Alter + Drop, W: Write> Client for HostClient<'_, '_, '_, '_, '_, '_, S,
 
 /// A script that is sent, and what is said of it.
 #[derive(Clone, Copy)]
-struct Script<'script, 'lines, 'watch> {
+struct Script<'name, 'text, 'lines, 'watch> {
     /// Its name.
-    name: &'script str,
-    lines: &'lines [NumberedLine<'script>],
+    name: &'name str,
+    lines: &'lines [NumberedLine<'text>],
     /// Whether nothing is sent if a number of a line was used before.
     only_new: bool,
-    watch: &'watch HostWatch<'script>,
+    watch: &'watch HostWatch<'name>,
 }
 
 /// Sends the lines, and at the end the question how many requests stand where, which has no number.
@@ -217,7 +217,7 @@ fn send_all<S: Alter + Drop, W: Write>(
     rt: &HostRuntime,
     room: &mut Room<S>,
     since: Moment,
-    script: &Script<'_, '_, '_>,
+    script: &Script<'_, '_, '_, '_>,
     writer: &mut Counted<W>,
 ) -> Result<u8, ServiceFault> {
     let server = listen(rt, since)?;
