@@ -77,8 +77,8 @@ commands=(
 mkfifo pipe
 exec 7<>pipe 8>pipe 7>&-
 
-# late TEXT: what was told but that a desk was opened before its last move.
-late() { grep -v '^tcdesk: opened at ' <<<"$1"; }
+# late TEXT: what was told but that a desk was opened before its last move, and that a number of a loop was used before.
+late() { grep -v '^tcdesk: opened at \|^tcdesk: number 1 is used: ' <<<"$1"; }
 
 unusable=$'tcdesk: cannot use output\n2'
 for command in "${commands[@]}"; do
