@@ -142,7 +142,7 @@ echo '160 cid enter 5 a--c no 8 3 - - ok' >other
 check "a script between two loops" 0 $'ok request 3 5/2\nmove 4 160 cid 3 - Entered enter\nplaces 3: 2 0 0 0 0 0 0 0 0 0 0 0 1 0 0\n' "" run --db twice.db other
 same "a script keeps nothing" "$kept_first" "$(kept twice.db)"
 three=$'places 3: 1 1 0 0 0 0 0 0 0 0 0 0 1 0 0\n'
-check "a loop whose numbers have to be new, and are" 0 "$three" "" loop twice.db input --new
+check "a loop whose numbers have to be new, and are" 0 $'places 3: 2 0 0 0 0 0 0 0 0 0 0 0 1 0 0\n' "" loop twice.db input --new
 approved=$entries$withdrawn$'ok approvals 1 of 1\nmove 5 130 bob 3 Entered Approved approve\n'$three$'ok\n'$three
 check "a loop whose refused line is done now" 0 "$approved" "$used" loop twice.db lines
 check "the same loop again" 0 "$approved" "${used/4 of/5 of}" loop twice.db lines
