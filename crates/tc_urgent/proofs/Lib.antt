@@ -1,0 +1,6 @@
+pub mod LineLemmas
+pub mod MoveLemmas
+pub mod LawLemmas
+pub mod FoldLemmas
+pub mod NeverLemmas
+mod SortLemmas

@@ -1,0 +1,5 @@
+pub mod Kinds
+pub mod Judging
+pub mod Lines
+pub mod Folds
+pub mod Laws
