@@ -3,4 +3,5 @@ pub mod MoveLemmas
 pub mod LawLemmas
 pub mod FoldLemmas
 pub mod NeverLemmas
+pub mod RankLemmas
 mod SortLemmas

@@ -1,5 +1,5 @@
 -- Which kind of line a request has: by where it stands, the locks of its stack, the open inserts, and the mirror.
-use Rattle.std.specs.Prelude.{◌≡◌, ℕ, ◌-◌, ◌==◌, ◌&&◌, ◌||◌, Bool, true, false, not, nat_lt, zero, suc, if◌then◌else◌, Option, Some, None, List, [], ◌∷◌, fold, length, slice_index_or, ◌<◌, ◌+◌}
+use Rattle.std.specs.Prelude.{◌≡◌, ℕ, ◌-◌, ◌==◌, ◌&&◌, ◌||◌, Bool, true, false, not, nat_lt, zero, suc, if◌then◌else◌, Option, Some, None, List, [], ◌∷◌, fold, length, slice_get, slice_index_or, ◌<◌, ◌+◌}
 use Rattle.std.specs.List.{filter_map, find, list_any}
 use Rattle.std.specs.Option.{option_and_then, option_map, option_map_or}
 use Rattle.tc_types.specs.declared.history.places.Place.{Place}
@@ -12,22 +12,37 @@ use Rattle.tc_types.specs.Schedule.{inserted, is_insert}
 use Rattle.tc_book.specs.Book.{Book, place_in, request_at, stands}
 use Rattle.tc_book.specs.Stacks.{is_interlocked}
 use Rattle.tc_book.specs.Waiting.{is_locked}
+use Rattle.tc_urgent.specs.declared.moves.LastMove.{LastMove}
 use Rattle.tc_urgent.specs.declared.kinds.UrgentKind.{UrgentKind}
 use Rattle.tc_urgent.specs.declared.kinds.UrgentKind.TheVariants.{InDoubt, FailedSince, Approval, Flying, LostReport, Free, ActivityOf, LockedForever, Locked}
 
 -- ---- since when
 
-abbrev pub moved_last : ℕ → ℕ → Move → ℕ
-moved_last n at row = if row.request == n then row.seq else at
+abbrev pub unmoved : LastMove
+unmoved = record { seq = 0; moment = 0 }
 
--- the number of the last move of request n; 0 if no move names it
+abbrev pub moved_last : ℕ → LastMove → Move → LastMove
+moved_last n at row = if row.request == n then record { seq = row.seq; moment = row.moment } else at
+
+-- the last move of request n; number 0 if no move names it
+abbrev pub last_move : List Move → ℕ → LastMove
+last_move history n = fold (moved_last n) unmoved history
+
 abbrev pub since : List Move → ℕ → ℕ
-since history n = fold (moved_last n) 0 history
+since history n = (last_move history n).seq
+
+-- the moment of the desk's last move
+abbrev pub latest : List Move → ℕ
+latest history = option_map_or (λ (row : Move). row.moment) (slice_get history (length history - 1)) 0
+
+-- how many seconds request n stands so, by the desk's last move
+abbrev pub waited : List Move → ℕ → ℕ
+waited history n = latest history - (last_move history n).moment
 
 -- these are the last moves of the first `count` requests, in order of number
-pub record AreLastMoves (history : List Move) (count : ℕ) (last : List ℕ) : Type 0 where
+pub record AreLastMoves (history : List Move) (count : ℕ) (last : List LastMove) : Type 0 where
   pub all : length last ≡ count
-  pub each : (k : ℕ) → k < count → slice_index_or last k 0 ≡ since history (k + 1)
+  pub each : (k : ℕ) → k < count → slice_index_or last k unmoved ≡ last_move history (k + 1)
 
 -- ---- locks that never open
 

@@ -3,3 +3,4 @@ pub mod Judging
 pub mod Lines
 pub mod Folds
 pub mod Laws
+pub mod Texts

@@ -14,7 +14,7 @@ use Rattle.tc_urgent.specs.declared.kinds.UrgentKind.{UrgentKind}
 use Rattle.tc_urgent.specs.declared.kinds.UrgentKind.TheVariants.{StepDue}
 use Rattle.tc_urgent.specs.declared.lines.OnBoard.{OnBoard}
 use Rattle.tc_urgent.specs.declared.lines.UrgentLine.{UrgentLine}
-use Rattle.tc_urgent.specs.Judging.{kind_of, since}
+use Rattle.tc_urgent.specs.Judging.{kind_of, since, waited}
 
 -- the service of a command, and its subtype there (ECSS-E-ST-70-41C): the on-board schedule is service 11
 abbrev pub service_of : Command → ℕ
@@ -40,14 +40,14 @@ stack_of r = option_map (λ (o : Origin). o.stack) r.origin
 
 -- the line of a request of this kind
 abbrev pub line_as : Book → Request → UrgentKind → UrgentLine
-line_as book r kind = record { kind = kind; number = r.number; on_board = Some (on_board r); stack = stack_of r; since = since book.history r.number; same = 0 }
+line_as book r kind = record { kind = kind; number = r.number; on_board = Some (on_board r); stack = stack_of r; since = since book.history r.number; waited = waited book.history r.number; same = 0 }
 
 abbrev pub request_line : Book → ℕ → List ℕ → Request → Option UrgentLine
 request_line book opened scheduled r = option_map (line_as book r) (kind_of book opened scheduled r)
 
 -- the line of an execution that has not ended; its steps are no moves
 abbrev pub step_as : BegunExecution → ℕ → UrgentLine
-step_as x step = record { kind = StepDue; number = x.execution; on_board = None; stack = None; since = 0; same = 0 }
+step_as x step = record { kind = StepDue; number = x.execution; on_board = None; stack = None; since = 0; waited = 0; same = 0 }
 
 abbrev pub execution_line : LogState → BegunExecution → Option UrgentLine
 execution_line log x = option_map (step_as x) (next_step (state_of log x))

@@ -41,6 +41,7 @@ fn both(line: &UrgentLine, next: &UrgentLine) -> UrgentLine
         on_board: line.on_board,
         stack: line.stack,
         since: line.since,
+        waited: line.waited,
         same: line.same + 1 + next.same,
     }
 }

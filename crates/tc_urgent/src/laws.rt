@@ -5,7 +5,9 @@ ghost use Rattle.tc_book.specs.Book.{Book};
 ghost use Rattle.tc_urgent.specs.declared.lines.UrgentLine.{UrgentLine};
 ghost use Rattle.tc_urgent.specs.Folds.{folded, total};
 ghost use Rattle.tc_urgent.specs.Judging.{kind_of};
-ghost use Rattle.tc_urgent.specs.Laws.{AreShownOnce, TellsSo};
+ghost use Rattle.std.specs.List.Sorted.{IsNonDecreasingBy};
+ghost use Rattle.tc_urgent.specs.Kinds.{urgency};
+ghost use Rattle.tc_urgent.specs.Laws.{AreByUrgency, AreShownOnce, TellsSo};
 ghost use Rattle.tc_urgent.specs.Lines.{request_lines};
 
 /// Each request that has not ended, or that failed after the opening, has one line, and no other request has one.
@@ -21,4 +23,9 @@ pub fn what_is_told_is_so()
 /// Folded lines stand for as many requests and executions as the lines did.
 pub fn a_fold_counts_all()
     ensures { (lines : List UrgentLine) → total (folded lines) ≡ total lines }
+{}
+
+/// No line is more urgent than one before it: so what a page leaves out behind it is not more urgent than what it shows.
+pub fn nothing_urgent_comes_later()
+    ensures { (lines : List UrgentLine) → AreByUrgency lines → IsNonDecreasingBy (λ (line : UrgentLine). urgency line.kind) lines }
 {}

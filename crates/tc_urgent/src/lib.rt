@@ -12,10 +12,12 @@ mod lines;
 mod locks;
 mod moves;
 mod pages;
+mod texts;
 mod urgents;
 
 pub use folds::{MOST_FOLDED, folded};
 pub use kinds::UrgentKind;
 pub use lines::{OnBoard, UrgentLine, service_of, subtype_of};
 pub use pages::{PAGE, count_of, page};
+pub use texts::urgent_text;
 pub use urgents::urgent;

@@ -1,10 +1,11 @@
 //! The lines of the board.
 ghost use Rattle.std.specs.Prelude.{◌≡◌};
 ghost use Rattle.tc_urgent.specs.Lines.{line_as, on_board, service_of, stack_of, subtype_of};
-ghost use Rattle.tc_urgent.specs.Judging.{since as since_of};
+ghost use Rattle.tc_urgent.specs.Judging.{last_move, latest as latest_of};
 ghost use Rattle.tc_book.specs.Book.{Book};
 
 use crate::kinds::UrgentKind;
+use crate::moves::LastMove;
 use tc_types::{Command, Identity, Name, Request};
 
 /// By what a request is known on board.
@@ -31,6 +32,8 @@ pub struct UrgentLine {
     pub stack: Option<Name>,
     /// The number of the move since which the request stands so; 0 for an execution.
     pub since: u32,
+    /// For how many seconds it stands so, by the desk's last move; 0 for an execution.
+    pub waited: u32,
     /// How many further lines are folded into this one.
     pub same: u32,
 }
@@ -81,16 +84,22 @@ fn stack_of(request: &Request) -> Option<Name>
     Some(origin.stack)
 }
 
-/// The line of a request of this kind, which stands so since this move.
-pub(crate) fn line_as(request: &Request, kind: UrgentKind, since: u32) -> UrgentLine
-    ensures { (book : Book) → since ≡ since_of book.history request.now.number → result ≡ line_as book request.now kind }
+/// The line of a request of this kind whose last move is `last`; the desk's last move was at `latest`.
+pub(crate) fn line_as(
+    request: &Request,
+    kind: UrgentKind,
+    last: &LastMove,
+    latest: u32,
+) -> UrgentLine
+    ensures { (book : Book) → last.now ≡ last_move book.history request.now.number → latest ≡ latest_of book.history → result ≡ line_as book request.now kind }
 {
     UrgentLine {
         kind,
         number: request.number.get(),
         on_board: Some(on_board(request)),
         stack: stack_of(request),
-        since,
+        since: last.seq,
+        waited: latest.saturating_sub(last.moment),
         same: 0,
     }
 }

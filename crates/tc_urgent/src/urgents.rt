@@ -6,7 +6,7 @@ ghost use Rattle.tc_proc.specs.Logs.{execution_at};
 ghost use Rattle.tc_types.specs.Limits.{most_requests};
 ghost use Rattle.tc_book.specs.Book.{request_at};
 ghost use Rattle.tc_urgent.specs.Kinds.{urgency};
-ghost use Rattle.tc_urgent.specs.Judging.{AreLastMoves, open_inserts};
+ghost use Rattle.tc_urgent.specs.Judging.{AreLastMoves, latest as latest_of, open_inserts};
 ghost use Rattle.tc_urgent.specs.Laws.{AreByUrgency};
 ghost use Rattle.tc_urgent.specs.Lines.{execution_line, lines_of, request_line, request_lines};
 
@@ -14,18 +14,20 @@ use crate::inserts::{add_one, open_inserts};
 use crate::judging::kind_of;
 use crate::kinds::UrgentKind;
 use crate::lines::{UrgentLine, line_as};
-use crate::moves::last_moves;
+use crate::moves::{LastMove, last_moves, latest};
 use std::alloc::{AllocError, Allocator};
 use tc_book::Records;
 use tc_types::{MOST_REQUESTS, Request};
 
-/// What is asked of a book beside it: how many moves stood at the opening, and which requests the mirror has on board.
+/// What the lines need beside the book: how many moves stood at the opening, which requests the mirror has on board, the open inserts,
+/// the last move of each request, and the moment of the desk's last move.
 #[derive(Clone, Copy)]
 struct Given<'a> {
     opened: u32,
     scheduled: &'a [u32],
     inserts: &'a [Request],
-    last: &'a [u32],
+    last: &'a [LastMove],
+    latest: u32,
 }
 
 /// The line of request `n`, if it has one.
@@ -36,19 +38,20 @@ fn request_line<A: Allocator + Copy + Drop>(
 ) -> Option<UrgentLine>
     requires inserts { given.now.inserts.now ≡ open_inserts book.now.book }
     requires last { AreLastMoves book.now.book.history most_requests given.now.last.now }
+    requires latest { given.now.latest ≡ latest_of book.now.book.history }
     ensures { result ≡ option_and_then (request_line book.now.book given.now.opened given.now.scheduled.now) (request_at book.now.book n) }
 {
     let request = book.request(n)?;
-    let since = given.last[request.number.get() as usize - 1];
+    let last = &given.last[request.number.get() as usize - 1];
     let kind = kind_of(
         book,
         given.inserts,
         given.opened,
         given.scheduled,
-        since,
+        last.seq,
         &request,
     )?;
-    Some(line_as(&request, kind, since))
+    Some(line_as(&request, kind, last, given.latest))
 }
 
 /// The line of execution `e`, if it has not ended.
@@ -65,6 +68,7 @@ fn execution_line<A: Allocator + Copy + Drop>(book: &Records<A>, e: u32) -> Opti
         on_board: None,
         stack: None,
         since: 0,
+        waited: 0,
         same: 0,
     })
 }
@@ -77,6 +81,7 @@ fn add_requests<A: Allocator + Copy + Drop>(
 ) -> Result<(), AllocError>
     requires inserts { given.now.inserts.now ≡ open_inserts book.now.book }
     requires last { AreLastMoves book.now.book.history most_requests given.now.last.now }
+    requires latest { given.now.latest ≡ latest_of book.now.book.history }
     ensures { OnOk result (lines.new.items ≡ lines.old.items ++ request_lines book.now.book given.now.opened given.now.scheduled.now) }
 {
     for at in 0..book.count() {
@@ -114,6 +119,7 @@ fn lines_of<A: Allocator + Copy + Drop>(
         scheduled,
         inserts: &inserts,
         last: &last,
+        latest: latest(book.rows()),
     };
     let mut lines = Vec::new(alloc);
     add_requests(book, &given, &mut lines)?;
