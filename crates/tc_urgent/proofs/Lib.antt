@@ -4,4 +4,5 @@ pub mod LawLemmas
 pub mod FoldLemmas
 pub mod NeverLemmas
 pub mod RankLemmas
+pub mod OneLine
 mod SortLemmas

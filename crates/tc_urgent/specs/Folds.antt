@@ -1,18 +1,18 @@
 -- Lines that are folded into one.
-use Rattle.std.specs.Prelude.{ℕ, ◌+◌, ◌==◌, ◌&&◌, Bool, true, false, nat_lt, if◌then◌else◌, Option, Some, None, List, [], ◌∷◌, ◌++◌, fold}
+use Rattle.std.specs.Prelude.{ℕ, ◌+◌, ◌==◌, ◌&&◌, Bool, false, nat_lt, if◌then◌else◌, Option, Some, None, List, [], ◌∷◌, ◌++◌, fold}
 use Rattle.tc_types.specs.Names.{is_same_name}
 use Rattle.tc_urgent.specs.declared.lines.UrgentLine.{UrgentLine}
-use Rattle.tc_urgent.specs.Kinds.{is_folded, is_same_kind}
+use Rattle.tc_urgent.specs.Kinds.{is_folded, is_folded_alone, is_same_kind}
 
--- two requests came with one stack, or both with none
-abbrev pub is_same_stack : Option (List ℕ) → Option (List ℕ) → Bool
-is_same_stack None None = true
-is_same_stack (Some a) (Some b) = is_same_name a b
-is_same_stack a b = false
+-- two requests came with one stack; with none, whether lines of their kind are folded
+abbrev pub is_same_stack : Bool → Option (List ℕ) → Option (List ℕ) → Bool
+is_same_stack alone None None = alone
+is_same_stack alone (Some a) (Some b) = is_same_name a b
+is_same_stack alone a b = false
 
--- Of two lines the first takes the second in, if both are of one kind and of one stack, or of none. One line stands for 65,536 at most.
+-- Of two lines the first takes the second in, if both are of one kind and of one stack, or of a kind that is folded without a stack. One line stands for 65,536 at most.
 abbrev pub takes_in : UrgentLine → UrgentLine → Bool
-takes_in line next = is_folded line.kind && is_same_kind line.kind next.kind && is_same_stack line.stack next.stack && nat_lt (line.same + next.same) 65535
+takes_in line next = is_folded line.kind && is_same_kind line.kind next.kind && is_same_stack (is_folded_alone line.kind) line.stack next.stack && nat_lt (line.same + next.same) 65535
 
 -- one line for both
 abbrev pub both : UrgentLine → UrgentLine → UrgentLine

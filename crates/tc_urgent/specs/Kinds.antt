@@ -21,9 +21,13 @@ abbrev pub insert_in : UrgentKind → ℕ
 insert_in (ActivityOf insert) = insert
 insert_in other = 0
 
--- A person needs the lines in doubt, failed, due and lost by name; the others are folded.
+-- A person needs what is in doubt, failed, due or lost by name. The others are folded where they came with one stack.
 abbrev pub is_folded : UrgentKind → Bool
 is_folded kind = urgency kind == 3 || urgency kind == 5 || nat_le 7 (urgency kind)
+
+-- Without a stack, those that wait for an act on each of them are not folded: an approval, or a release.
+abbrev pub is_folded_alone : UrgentKind → Bool
+is_folded_alone kind = urgency kind == 5 || nat_le 8 (urgency kind)
 
 -- two lines are of one kind, and activities of one insert
 abbrev pub is_same_kind : UrgentKind → UrgentKind → Bool

@@ -9,12 +9,12 @@ use tc_types::{Name, is_same_name};
 /// How many further lines one line stands for at most.
 pub const MOST_FOLDED: u64 = 65_535;
 
-/// Whether two requests came with one stack, or both with none.
-fn is_same_stack(a: &Option<Name>, b: &Option<Name>) -> bool
-    ensures { result ≡ is_same_stack a.now b.now }
+/// Whether two requests came with one stack; with none, whether lines of their kind are folded.
+fn is_same_stack(alone: bool, a: &Option<Name>, b: &Option<Name>) -> bool
+    ensures { result ≡ is_same_stack alone a.now b.now }
 {
     match (a, b) {
-        (None, None) => true,
+        (None, None) => alone,
         (Some(a), Some(b)) => is_same_name(a, b),
         (None, Some(_)) | (Some(_), None) => false,
     }
@@ -26,7 +26,7 @@ fn takes_in(line: &UrgentLine, next: &UrgentLine) -> bool
 {
     line.kind.is_folded()
         && line.kind.is_same(&next.kind)
-        && is_same_stack(&line.stack, &next.stack)
+        && is_same_stack(line.kind.is_folded_alone(), &line.stack, &next.stack)
         && u64::from(line.same) + u64::from(next.same) < MOST_FOLDED
 }
 

@@ -1,6 +1,6 @@
 //! The kinds of urgent lines.
 ghost use Rattle.std.specs.Prelude.{◌≡◌, ◌≤◌};
-ghost use Rattle.tc_urgent.specs.Kinds.{urgency, insert_in, is_folded, is_same_kind};
+ghost use Rattle.tc_urgent.specs.Kinds.{urgency, insert_in, is_folded, is_folded_alone, is_same_kind};
 
 /// What a line says of its request or its execution, most urgent first.
 #[derive(Clone, Copy, Debug, PartialEq, Eq)]
@@ -57,12 +57,20 @@ impl UrgentKind {
         }
     }
 
-    /// Whether lines of this kind are folded into one. Those that a person needs by name are not.
+    /// Whether lines of this kind are folded if they came with one stack. Those that a person needs by name are not.
     pub fn is_folded(&self) -> bool
         ensures { result ≡ is_folded self.now }
     {
         let urgency = self.urgency();
         urgency == 3 || urgency == 5 || urgency >= 7
+    }
+
+    /// Whether lines of this kind are folded if they came with no stack. Those that wait for an act on each of them are not.
+    pub fn is_folded_alone(&self) -> bool
+        ensures { result ≡ is_folded_alone self.now }
+    {
+        let urgency = self.urgency();
+        urgency == 5 || urgency >= 8
     }
 
     /// Whether two lines are of one kind, and activities of one insert.

@@ -1,6 +1,7 @@
 //! How a line is printed, without its LF.
-ghost use Rattle.std.specs.Prelude.{◌≡◌, IfOk, Some};
+ghost use Rattle.std.specs.Prelude.{◌≡◌, IfOk, IsTrue, Some};
 ghost use Rattle.std.specs.String.{string_bytes};
+ghost use Rattle.tc_types.specs.Words.{is_one_line};
 ghost use Rattle.tc_urgent.specs.Texts.{kind_name, kind_phrase, subject_phrase, urgent_text};
 
 use crate::kinds::UrgentKind;
@@ -26,9 +27,13 @@ fn kind_name(kind: &UrgentKind) -> &'static str
 }
 
 /// What a line says: a kind, with the insert of an activity.
+#[tactic(auto, using(crate::proofs::OneLine::kind_one))]
 fn kind_text<A: Allocator + Copy>(alloc: A, kind: &UrgentKind) -> Result<String<A>, AllocError>
-    ensures { IfOk result (λ t. string_bytes t ≡ kind_phrase kind.now) }
+    ensures text { IfOk result (λ t. string_bytes t ≡ kind_phrase kind.now) }
+    ensures one_line { IsTrue (is_one_line (kind_phrase kind.now)) }
 {
+    // read for the proof alone
+    let _insert = kind.insert();
     match kind {
         UrgentKind::ActivityOf { insert } => format!(in alloc; "activity of {insert}"),
         other => String::from_str(alloc, kind_name(other)),
@@ -36,12 +41,14 @@ fn kind_text<A: Allocator + Copy>(alloc: A, kind: &UrgentKind) -> Result<String<
 }
 
 /// The request of a line: its number, its name on board, and its service and subtype.
+#[tactic(auto, using(crate::proofs::OneLine::request_one))]
 fn request_text<A: Allocator + Copy>(
     alloc: A,
     number: u32,
     on_board: &OnBoard,
 ) -> Result<String<A>, AllocError>
-    ensures { IfOk result (λ t. string_bytes t ≡ subject_phrase number (Some on_board.now)) }
+    ensures text { IfOk result (λ t. string_bytes t ≡ subject_phrase number (Some on_board.now)) }
+    ensures one_line { IfOk result (λ t. IsTrue (is_one_line (subject_phrase number (Some on_board.now)))) }
 {
     let identity = on_board.identity;
     let identity = identity.text(alloc)?;
@@ -52,12 +59,14 @@ fn request_text<A: Allocator + Copy>(
 }
 
 /// The request or the execution of a line.
+#[tactic(auto, using(crate::proofs::OneLine::execution_one))]
 fn subject_text<A: Allocator + Copy>(
     alloc: A,
     number: u32,
     on_board: &Option<OnBoard>,
 ) -> Result<String<A>, AllocError>
-    ensures { IfOk result (λ t. string_bytes t ≡ subject_phrase number on_board.now) }
+    ensures text { IfOk result (λ t. string_bytes t ≡ subject_phrase number on_board.now) }
+    ensures one_line { IfOk result (λ t. IsTrue (is_one_line (subject_phrase number on_board.now))) }
 {
     match on_board {
         Some(on_board) => request_text(alloc, number, on_board),
@@ -66,11 +75,13 @@ fn subject_text<A: Allocator + Copy>(
 }
 
 /// A line, as it is printed. Fails if memory is refused.
+#[tactic(auto, using(crate::proofs::OneLine::urgent_one))]
 pub fn urgent_text<A: Allocator + Copy>(
     alloc: A,
     line: &UrgentLine,
 ) -> Result<String<A>, AllocError>
-    ensures { IfOk result (λ t. string_bytes t ≡ urgent_text line.now) }
+    ensures text { IfOk result (λ t. string_bytes t ≡ urgent_text line.now) }
+    ensures one_line { IfOk result (λ t. IsTrue (is_one_line (urgent_text line.now))) }
 {
     let subject = subject_text(alloc, line.number, &line.on_board)?;
     let subject = subject.as_str();
