@@ -1,0 +1,8 @@
+pub mod LineLemmas
+pub mod MoveLemmas
+pub mod LawLemmas
+pub mod FoldLemmas
+pub mod NeverLemmas
+pub mod RankLemmas
+pub mod OneLine
+mod SortLemmas
