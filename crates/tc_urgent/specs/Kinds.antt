@@ -1,5 +1,5 @@
 -- The kinds of urgent lines, by rank.
-use Rattle.std.specs.Prelude.{ℕ, ◌==◌, ◌&&◌, ◌||◌, Bool, nat_le}
+use Rattle.std.specs.Prelude.{ℕ, ◌==◌, ◌&&◌, Bool, true, false}
 use Rattle.tc_urgent.specs.declared.kinds.UrgentKind.{UrgentKind}
 use Rattle.tc_urgent.specs.declared.kinds.UrgentKind.TheVariants.{InDoubt, FailedSince, Approval, StepDue, Flying, LostReport, Free, ActivityOf, LockedForever, Locked}
 
@@ -23,11 +23,21 @@ insert_in other = 0
 
 -- A person needs what is in doubt, failed, due or lost by name. The others are folded where they came with one stack.
 abbrev pub is_folded : UrgentKind → Bool
-is_folded kind = urgency kind == 3 || urgency kind == 5 || nat_le 7 (urgency kind)
+is_folded Approval = true
+is_folded Flying = true
+is_folded Free = true
+is_folded (ActivityOf insert) = true
+is_folded LockedForever = true
+is_folded Locked = true
+is_folded other = false
 
 -- Without a stack, those that wait for an act on each of them are not folded: an approval, or a release.
 abbrev pub is_folded_alone : UrgentKind → Bool
-is_folded_alone kind = urgency kind == 5 || nat_le 8 (urgency kind)
+is_folded_alone Flying = true
+is_folded_alone (ActivityOf insert) = true
+is_folded_alone LockedForever = true
+is_folded_alone Locked = true
+is_folded_alone other = false
 
 -- two lines are of one kind, and activities of one insert
 abbrev pub is_same_kind : UrgentKind → UrgentKind → Bool

@@ -25,6 +25,11 @@ rank line = (urgency line.kind, line.number)
 abbrev pub AreByUrgency : List UrgentLine → Type 0
 AreByUrgency lines = IsSortedByKey rank by_rank lines
 
+-- no line is more urgent than one before it
+abbrev pub NoneMoreUrgent : List UrgentLine → Type 0
+NoneMoreUrgent [] = Unit {0}
+NoneMoreUrgent (line ∷ lines) = AllByRecursion (λ (later : UrgentLine). urgency line.kind ≤ urgency later.kind) lines × NoneMoreUrgent lines
+
 -- the places of a request that has not ended
 abbrev pub open_places : List Place
 open_places = Entered ∷ Approved ∷ Queued ∷ Sent ∷ Confirmed ∷ Riding ∷ Scheduled ∷ Accepted ∷ Started ∷ Doubtful ∷ []

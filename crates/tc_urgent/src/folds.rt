@@ -79,7 +79,8 @@ fn add_next<A: Allocator>(
     }
 }
 
-/// The lines in their order, with rows of one stack or of one kind folded into one line, which counts them. Fails if memory is refused.
+/// Returns the lines in their order, with rows of one stack or of one kind folded into one line,
+/// which counts them. Fails if memory is refused.
 pub fn folded<A: Allocator + Copy>(
     alloc: A,
     lines: &[UrgentLine],

@@ -42,9 +42,11 @@ fn is_scheduled(scheduled: &[u32], n: u32) -> bool
     scheduled.iter().any(|known| *known == n)
 }
 
-/// The kind of line of a request whose last move is `moved`; `None` if it has ended, unless it failed after the opening.
+/// The kind of line of a request whose last move is `moved`; `None` if the request has ended, unless
+/// it failed after the opening.
 ///
-/// `inserts` are the open inserts of the book, `opened` moves stood at the opening, and the mirror has `scheduled` on board.
+/// `inserts` are the open inserts of the book, `opened` moves stood at the opening, and the mirror
+/// has `scheduled` on board.
 pub(crate) fn kind_of<A: Allocator + Copy + Drop>(
     book: &Records<A>,
     inserts: &[Request],

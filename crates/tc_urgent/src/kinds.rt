@@ -57,20 +57,34 @@ impl UrgentKind {
         }
     }
 
-    /// Whether lines of this kind are folded if they came with one stack. Those that a person needs by name are not.
+    /// Whether lines of this kind are folded if they came with one stack. Those that a person needs
+    /// by name are not.
     pub fn is_folded(&self) -> bool
         ensures { result ≡ is_folded self.now }
     {
-        let urgency = self.urgency();
-        urgency == 3 || urgency == 5 || urgency >= 7
+        matches!(
+            self,
+            UrgentKind::Approval
+                | UrgentKind::Flying
+                | UrgentKind::Free
+                | UrgentKind::ActivityOf { .. }
+                | UrgentKind::LockedForever
+                | UrgentKind::Locked
+        )
     }
 
-    /// Whether lines of this kind are folded if they came with no stack. Those that wait for an act on each of them are not.
+    /// Whether lines of this kind are folded if they came with no stack. Those that wait for an act
+    /// on each of them are not.
     pub fn is_folded_alone(&self) -> bool
         ensures { result ≡ is_folded_alone self.now }
     {
-        let urgency = self.urgency();
-        urgency == 5 || urgency >= 8
+        matches!(
+            self,
+            UrgentKind::Flying
+                | UrgentKind::ActivityOf { .. }
+                | UrgentKind::LockedForever
+                | UrgentKind::Locked
+        )
     }
 
     /// Whether two lines are of one kind, and activities of one insert.

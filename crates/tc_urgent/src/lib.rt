@@ -1,6 +1,8 @@
-//! What is open at the desk, most urgent first: requests in doubt, those that failed, what waits for a person, what flies, and what is locked.
+//! What is open at the desk, most urgent first: requests in doubt, those that failed, what waits for
+//! a person, what flies, and what is locked.
 //!
-//! A line is made of a book (`Records`), the number of moves at the opening, and the requests that the mirror has on board.
+//! A line is made of a book (`Records`), the number of moves at the opening, and the requests that
+//! the mirror has on board.
 #![tactic(auto)]
 
 mod folds;

@@ -84,7 +84,8 @@ fn stack_of(request: &Request) -> Option<Name>
     Some(origin.stack)
 }
 
-/// The line of a request of this kind whose last move is `last`; the desk's last move was at `latest`.
+/// The line of a request of this kind whose last move is `last`; the desk's last move was at
+/// `latest`.
 pub(crate) fn line_as(
     request: &Request,
     kind: UrgentKind,

@@ -23,14 +23,14 @@ fn first_of(lines: &[UrgentLine], most: usize) -> &[UrgentLine]
     &lines[..most.min(lines.len())]
 }
 
-/// The page that begins with line `from`, counted from 1.
+/// Returns the page that begins with line `from`, counted from 1.
 pub fn page(lines: &[UrgentLine], from: usize) -> &[UrgentLine]
     ensures { result.now ≡ page_of from lines.now }
 {
     first_of(lines_from(lines, from), PAGE)
 }
 
-/// How many of these lines have this rank: of those that a page leaves out, say.
+/// Counts the lines of this rank, as of those that a page leaves out.
 pub fn count_of(lines: &[UrgentLine], urgency: u8) -> usize
     ensures { result ≡ count_by (λ line. urgency_of line.kind == urgency) lines.now }
 {

@@ -19,8 +19,9 @@ use std::alloc::{AllocError, Allocator};
 use tc_book::Records;
 use tc_types::{MOST_REQUESTS, Request};
 
-/// What the lines need beside the book: how many moves stood at the opening, which requests the mirror has on board, the open inserts,
-/// the last move of each request, and the moment of the desk's last move.
+/// What the lines need beside the book: how many moves stood at the opening, which requests the
+/// mirror has on board, the open inserts, the last move of each request, and the moment of the
+/// desk's last move.
 #[derive(Clone, Copy)]
 struct Given<'a> {
     opened: u32,
@@ -134,7 +135,8 @@ fn rank(line: &UrgentLine) -> (u8, u32)
     (line.kind.urgency(), line.number)
 }
 
-/// All lines of a book, most urgent first, those of one rank by number. Fails if memory is refused.
+/// Returns all lines of a book, most urgent first, those of one rank by number. Fails if memory is
+/// refused.
 ///
 /// `opened` moves stood at the opening, and the mirror has the requests `scheduled` on board.
 pub fn urgent<A: Allocator + Copy + Drop>(
