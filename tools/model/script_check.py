@@ -1,7 +1,7 @@
 """What `tcdesk check script` has to tell of a script by itself: a reading of its grammar, word by word, which asks the program nothing. What a word has to be hangs on the
 words before it. Words are read as lines.py reads them, which judges whole lines and tells no fault.
 """
-from typing import Callable, Mapping, NamedTuple, Optional, Union
+from typing import Callable, Mapping, NamedTuple, Optional, Sequence, Union
 
 from model.check import KINDS, Told, limited, quoted, told_of
 from model.facts import (
@@ -145,6 +145,12 @@ def why_word(at: Slot, word: str) -> str:
     return f"not {at.wanted}: {quoted(word)}"
 
 
+def why_refused(words: Sequence[str]) -> str:
+    """Why each desk refuses a line that is one: an insert names a request twice. Nothing of another line."""
+    named = words[8].split(";") if words[2] == "enter" else []
+    return f", word 9: a request that is named twice: {quoted(words[8])}" if len(set(named)) < len(named) else ""
+
+
 def fault_of(line: str) -> str:
     """What is wrong with a line, behind its number; nothing where nothing is."""
     parts = line.split(" ", 2)
@@ -159,6 +165,11 @@ def fault_of(line: str) -> str:
             return f", word {which}: {why_word(at, word)}"
         at = at.next(word)
     return f", word {len(words) + 1}: missing, {at.wanted}" if at else ""
+
+
+def wrong_with(line: str) -> str:
+    """What is told of a line, behind its number: that it is none, or that each desk refuses it; nothing of another."""
+    return fault_of(line) or why_refused(line.split(" "))
 
 
 def why_unloaded(line: str, files: Mapping[str, bytes]) -> str:
@@ -178,7 +189,7 @@ def script_told(data: bytes, files: Optional[Mapping[str, bytes]] = None) -> Tol
     *lines, last = data.decode("latin-1").split("\n")
     found = []
     for at, line in enumerate([it.removesuffix("\r") for it in lines] + [last], 1):
-        why = fault_of(line) if is_answered(line) else ""
+        why = wrong_with(line) if is_answered(line) else ""
         if is_answered(line) and not why and files is not None:
             why = why_unloaded(line, files)
         if why:

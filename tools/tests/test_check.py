@@ -27,7 +27,7 @@ from typing import NamedTuple, Union
 
 from generate.check_random import random_text
 from generate.check_texts import NO_STACK, ROW, STACK, Text, all_texts, bytes_of, listed
-from model.check import Told, told_of
+from model.check import OPEN_QUOTE, Told, told_of
 from model.desk import Desk
 from model.facts import Refusal
 from model.lines import is_answered, read_line
@@ -56,6 +56,7 @@ stack line N, field target: not 1 to 8 earlier lines, parted by ;
 stack line N, field target: not an earlier line
 stack line N, field target: not empty
 stack line N, field time: not as many instants as targets, parted by ;
+stack line N, field time: not instants from 1970 to 2099 with an offset, such as 2031-05-04T10:00:00Z, parted by ;
 stack line N, field time: not seconds, -4102444799 to 4102444799
 stack line N, field time: not empty
 stack line N, field ack: not aspc, with - for each report that is not wanted
@@ -123,8 +124,8 @@ def check_by(program: str, folder: str, text: Text, told: Told, path: str, given
 
 
 def front_of(line: str) -> str:
-    """A line without the line of the file."""
-    return re.sub(r" \(line [0-9]+ of the file\)", "", line)
+    """A line without the line of the file, and without what is told of a quote that stays open."""
+    return re.sub(r" \(line [0-9]+ of the file\)", "", line).removesuffix(OPEN_QUOTE)
 
 
 def written_by(text: Text, told: Told) -> list[str]:
@@ -220,6 +221,7 @@ CASES: list[tuple[str, int, Union[bytes, re.Pattern[bytes]], Union[bytes, re.Pat
     ('"$0" check stack bad.csv', 1, b'line 2, field apid: not 0 to 2047 in plain digits: "x"\n', b""),
     ('"$0" check stack - <bad.csv', 1, b'line 2, field apid: not 0 to 2047 in plain digits: "x"\n', b""),
     ('"$0" check procedure good.csv', 1, b'header: not step,text,second,request: column 1 is not step: "line"\n', b""),
+    ('{ cat good.csv; echo "2,5,8,1,\\",,---c,no,,ok"; } >open.csv; "$0" check stack open.csv', 1, b"line 2: not 10 fields: 5, and a quote stays open to the end of the file\n", b""),
     ('"$0" check stack /dev/null', 1, NO_STACK.encode() + b": the file is empty\n", b""),
     ('"$0" check stack - </dev/null', 1, NO_STACK.encode() + b": the file is empty\n", b""),
     ('{ head -c 70 bad.csv; sleep 0.3; tail -c +71 bad.csv; } | "$0" check stack -', 1, b'line 2, field apid: not 0 to 2047 in plain digits: "x"\n', b""),

@@ -8,7 +8,7 @@ use Rattle.tc_script.specs.declared.faults.LineFault.{LineFault}
 use Rattle.tc_script.specs.Faults.{IsTaken, Tells}
 use Rattle.tc_check.specs.Checks.{Says}
 use Rattle.tc_check.specs.Findings.{is_none_found, shown_lines}
-use Rattle.tc_check.specs.LineTexts.{fault_text, word_place}
+use Rattle.tc_check.specs.LineTexts.{fault_text, names_twice, twice_text, word_place}
 use Rattle.tc_check.specs.Shown.{quoted}
 use Rattle.tc_check.specs.Sources.{Gives, Seen, seen_at}
 
@@ -23,10 +23,15 @@ is_skipped (first ∷ others) = first == 35
 
 -- ---- a line
 
--- what is told of a line by its number: nothing where it is skipped, or where a run takes it
+-- what is wrong with a line that is not skipped: a run does not take it; or it does, and no desk, since a request is named twice
+abbrev pub IsWrongLine : ℕ → List ℕ → List ℕ → Type 0
+IsWrongLine number line told =
+    ((fault : LineFault) × Tells line fault × (told ≡ fault_text number line fault)) ⊎ (IsTaken line × (names_twice line ≡ true) × (told ≡ twice_text number line))
+
+-- what is told of a line by its number: nothing where it is skipped, or where nothing is wrong with it
 abbrev pub SaysOfLine : ℕ → List ℕ → Option (List ℕ) → Type 0
-SaysOfLine number line None = (is_skipped line ≡ true) ⊎ IsTaken line
-SaysOfLine number line (Some told) = (is_skipped line ≡ false) × (fault : LineFault) × Tells line fault × (told ≡ fault_text number line fault)
+SaysOfLine number line None = (is_skipped line ≡ true) ⊎ (IsTaken line × (names_twice line ≡ false))
+SaysOfLine number line (Some told) = (is_skipped line ≡ false) × IsWrongLine number line told
 
 -- ---- a file that a line loads
 

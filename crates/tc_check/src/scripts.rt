@@ -10,7 +10,7 @@ ghost use Rattle.tc_check.specs.Sources.{Gives, Seen, seen_at};
 
 use crate::checks::{Checked, check_text};
 use crate::findings::Findings;
-use crate::line_texts::{fault_text, word_place};
+use crate::line_texts::{fault_text, names_twice, twice_text, word_place};
 use crate::shown::quoted;
 use crate::sources::Texts;
 use bstr::ByteSlice;
@@ -30,7 +30,7 @@ pub fn is_skipped(line: &[u8]) -> bool
 }
 
 /// What is told of a line of a script by its number, from 1, without its line end: which word is wrong, and what would be taken there. Nothing where
-/// the line is skipped, or where a run takes it.
+/// the line is skipped, or where a run takes it and it names no request twice.
 pub fn script_line(alloc: Global, number: usize, line: &[u8]) -> Result<Option<String>, AllocError>
     ensures { IfOk result (λ told. SaysOfLine number line.now (option_map string_bytes told)) }
 {
@@ -39,6 +39,7 @@ pub fn script_line(alloc: Global, number: usize, line: &[u8]) -> Result<Option<S
     }
     match line_fault(line) {
         Some(fault) => Ok(Some(fault_text(alloc, number, line, fault)?)),
+        None if names_twice(line) => Ok(Some(twice_text(alloc, number, line)?)),
         None => Ok(None),
     }
 }
