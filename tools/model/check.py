@@ -37,7 +37,7 @@ class Kind(NamedTuple):
 # ---- what a field may be: each rule gives what reads the field of a row, and why the row is wrong where it does not
 
 empty = one_of("")
-NO_INSTANTS = "not instants from 1970 to 2099 with an offset, such as 2031-05-04T10:00:00Z, parted by ;"
+NO_INSTANTS = "not instants of whole seconds from 1970 to 2099 with an offset, such as 2031-05-04T10:00:00Z, parted by ;"
 
 
 def maybe(read: Reader) -> Reader:

@@ -132,6 +132,9 @@ VERBS: dict[str, Optional[Slot]] = {
 LINE = one_moment(Slot(person, "a person, 1 to 16 of a-z and 0-9 and not desk", Slot(one_of(*VERBS), "an act, a question or a load", VERBS.get)))
 
 
+QUESTIONS = ("places", "history", "request", "link", "schedule", "log", "report", "waiting", "moves", "standing", "steps")
+
+
 # ---- what is told
 
 def why_word(at: Slot, word: str) -> str:
@@ -184,6 +187,19 @@ def why_unloaded(line: str, files: Mapping[str, bytes]) -> str:
     return "" if told.is_ok else f", word 5: {at}: {told.lines[0]}"
 
 
+def back_lines(lines: Sequence[str]) -> list[str]:
+    """What is told of lines that a run works and that are no questions, of which each lies before one above it."""
+    found, latest = [], -1
+    for at, line in enumerate(lines, 1):
+        if not is_answered(line) or line.split(" ")[2] in QUESTIONS:
+            continue
+        moment = int(line.split(" ")[0])
+        if moment < latest:
+            found.append(f"line {at}: at {moment}, before a line at {latest}")
+        latest = max(latest, moment)
+    return found
+
+
 def script_told(data: bytes, files: Optional[Mapping[str, bytes]] = None) -> Told:
     """What is told of the bytes of a script; with the files that there are, what is told of those that it loads too."""
     *lines, last = data.decode("latin-1").split("\n")
@@ -194,4 +210,4 @@ def script_told(data: bytes, files: Optional[Mapping[str, bytes]] = None) -> Tol
             why = why_unloaded(line, files)
         if why:
             found.append(f"line {at}{why}")
-    return Told(limited(found) or ["ok"], not found, 0)
+    return Told(limited(found) or ["ok", *limited(back_lines([it.removesuffix("\r") for it in lines] + [last]))], not found, 0)

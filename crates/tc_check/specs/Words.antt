@@ -32,7 +32,7 @@ why_target _ = codes "not empty"
 -- of an insert: too few times or too many, or one of them is no instant that the desk takes
 abbrev pub why_instants : Bool → List ℕ
 why_instants has_each =
-    if has_each then codes "not instants from 1970 to 2099 with an offset, such as 2031-05-04T10:00:00Z, parted by ;"
+    if has_each then codes "not instants of whole seconds from 1970 to 2099 with an offset, such as 2031-05-04T10:00:00Z, parted by ;"
     else codes "not as many instants as targets, parted by ;"
 
 abbrev pub why_time : Sort → Bool → List ℕ

@@ -93,14 +93,14 @@ fn word_at(line: &[u8], place: usize) -> &[u8]
 }
 
 /// The word with this number.
-fn word_of(line: &[u8], which: usize) -> &[u8]
+pub(crate) fn word_of(line: &[u8], which: usize) -> &[u8]
     ensures { result.now ≡ word_of line.now which }
 {
     word_at(line, which.saturating_sub(1))
 }
 
 /// A line by its number.
-fn line_place(alloc: Global, number: usize) -> Result<String, AllocError>
+pub(crate) fn line_place(alloc: Global, number: usize) -> Result<String, AllocError>
     ensures { IfOk result (λ text. string_bytes text ≡ line_place number) }
 {
     format!(in alloc; "line {number}")

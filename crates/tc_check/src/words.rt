@@ -60,7 +60,7 @@ fn why_instants(has_each: bool) -> &'static str
     ensures { result.now ≡ why_instants has_each }
 {
     if has_each {
-        "not instants from 1970 to 2099 with an offset, such as 2031-05-04T10:00:00Z, parted by ;"
+        "not instants of whole seconds from 1970 to 2099 with an offset, such as 2031-05-04T10:00:00Z, parted by ;"
     } else {
         "not as many instants as targets, parted by ;"
     }
