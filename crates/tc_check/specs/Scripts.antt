@@ -110,11 +110,15 @@ counts line = not (is_skipped line) && not (is_question (verb_in (word_of line 3
 abbrev pub latest_with : List ℕ → List ℕ → List ℕ
 latest_with latest line = if counts line && is_before latest (word_of line 1) then word_of line 1 else latest
 
+-- a line lies before this moment
+abbrev pub goes_back : List ℕ → List ℕ → Bool
+goes_back latest line = counts line && is_before (word_of line 1) latest
+
 abbrev pub back_text : ℕ → List ℕ → List ℕ → List ℕ
 back_text number latest line = line_place number ++ codes ": at " ++ shown (word_of line 1) ++ codes ", before a line at " ++ shown latest
 
 abbrev pub back_line : ℕ → List ℕ → List ℕ → List (List ℕ)
-back_line number latest line = if counts line && is_before (word_of line 1) latest then back_text number latest line ∷ [] else []
+back_line number latest line = if goes_back latest line then back_text number latest line ∷ [] else []
 
 -- what is told of the lines from this number on, of which each counts that lies before one above it
 abbrev pub back_lines_from : ℕ → List ℕ → List (List ℕ) → List (List ℕ)

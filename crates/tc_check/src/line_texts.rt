@@ -200,7 +200,7 @@ fn has_part(list: &[u8], word: &[u8]) -> bool
 
 /// Whether a word is one of what is left of such a list.
 fn has_part_left(left: Option<&[u8]>, word: &[u8]) -> bool
-    ensures { result ≡ list_any (pointwise nat_eq word.now) (words_left 59 left) }
+    ensures { result ≡ list_any (pointwise nat_eq word.now) (words_left 59 left.entry) }
 {
     match left {
         Some(list) => has_part(list, word),

@@ -5,7 +5,7 @@ ghost use Rattle.std.specs.String.{string_bytes};
 ghost use Rattle.tc_check.specs.Findings.{Shows};
 ghost use Rattle.tc_check.specs.LineTexts.{word_place};
 ghost use Rattle.tc_types.specs.Verbs.{verb_in};
-ghost use Rattle.tc_check.specs.Scripts.{back_line, back_lines_from, back_text, counts, is_before, is_question, latest_with, ok_text, SaysOfFile, SaysOfLine, SaysOfLines, SaysOfScript, SaysSeen, is_skipped, script_lines};
+ghost use Rattle.tc_check.specs.Scripts.{back_line, back_lines_from, back_text, counts, goes_back, is_before, is_question, latest_with, ok_text, SaysOfFile, SaysOfLine, SaysOfLines, SaysOfScript, SaysSeen, is_skipped, script_lines};
 ghost use Rattle.tc_check.specs.Shown.{quoted};
 ghost use Rattle.tc_check.specs.Sources.{Gives, Seen, seen_at};
 
@@ -198,7 +198,7 @@ fn latest_with<'a>(latest: &'a [u8], line: &'a [u8]) -> &'a [u8]
 
 /// Whether a line lies before a moment.
 fn goes_back(latest: &[u8], line: &[u8]) -> bool
-    ensures { result ≡ (counts line.now && is_before (word_of line.now 1) latest.now) }
+    ensures { result ≡ goes_back latest.now line.now }
 {
     counts(line) && is_before(word_of(line, 1), latest)
 }

@@ -9,7 +9,7 @@ loop-line-init c =
     back_none _ _ _ all c.new-findings.ensures
 
 pub loop-line-preserved : goal.loop-line-preserved
-loop-line-preserved c = back_next _ _ _ _ _ _ _ _ _ c.loop-line.invariant c.in-Some.ensures.steps c.latest_with.ensures c.in_ok-add_back.ensures
+loop-line-preserved c = back_next _ _ _ _ _ _ _ _ _ c.loop-line.invariant c.in-Some.ensures.steps c.latest_with-latest.ensures c.in_ok-add_back.ensures
 
 pub returns : goal.returns
 returns c = back_all _ _ _ _ _ c.loop-line.invariant c.in-None.ensures.steps.0
