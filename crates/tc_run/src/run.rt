@@ -25,7 +25,7 @@ use tc_check::is_skipped;
 use tc_closed::{Answered, MOST_FILE_BYTES, PathFault, Paths, ScriptFault, Watch, put, status_of};
 use tc_lines::read::load_reader::read_load;
 use tc_room::{Answer, Room, answer_line, answer_load, answer_places};
-use tc_types::{Counted, Load};
+use tc_types::{Counted, Load, Moment};
 use tc_world::Config;
 
 /// Runs the lines of a script on a desk where nothing happened yet, and writes what they are answered, and at the end
