@@ -27,7 +27,7 @@ pub fn urgent_reply(alloc: Global, lines: &[UrgentLine], from: u32) -> Result<St
 {
     let shown = page(lines, from as usize);
     let more = has_more(lines, from as usize);
-    let mut reply = head_text(alloc, shown.len() as u32, more)?;
+    let mut reply = head_text(alloc, shown.len(), more)?;
     reply.push_str("\n")?;
     add_urgent(alloc, &mut reply, shown)?;
     Ok(reply)

@@ -45,6 +45,6 @@ end_one : (more : Bool) → lacks 10 (if more then codes " more" else []) ≡ tr
 end_one true = refl
 end_one false = refl
 
-pub head_one : (shown : ℕ) (more : Bool) → shown < 2 ^ 32 → IsTrue (is_one_line (head_line shown more))
+pub head_one : (shown : ℕ) (more : Bool) → shown < 2 ^ 64 → IsTrue (is_one_line (head_line shown more))
 head_one shown more small =
-    both (codes "urgent " ++ decimal shown) (if more then codes " more" else []) (both (codes "urgent ") (decimal shown) refl (number_one shown (omega arith))) (end_one more)
+    both (codes "urgent " ++ decimal shown) (if more then codes " more" else []) (both (codes "urgent ") (decimal shown) refl (number_one shown small)) (end_one more)

@@ -109,7 +109,7 @@ fn with_more<A: Allocator + Copy>(mut line: String<A>, more: bool) -> Result<Str
 #[tactic(auto, using(crate::proofs::OneLine::head_one))]
 pub fn head_text<A: Allocator + Copy>(
     alloc: A,
-    shown: u32,
+    shown: usize,
     more: bool,
 ) -> Result<String<A>, AllocError>
     ensures text { IfOk result (λ t. string_bytes t ≡ head_line shown more) }
