@@ -31,3 +31,4 @@ pub mod HistoryLemmas
 pub mod StepLemmas
 pub mod CreateLemmas
 pub mod PlainLemmas
+pub mod BackLemmas

@@ -11,7 +11,7 @@ pub rows-preserved : goal.rows-preserved
 rows-preserved c wide =
     let rows = c.args.rows.now in
     let row = get_or rows c.rows.row-index _ in
-    let judged : AreOfReply (drop 1 row) = (rw c.row-item.is at c.in_ok-judge_reply.ensures) (all_at (λ (row : Row). length row ≡ 4) rows c.rows.row-index _ c.rows-test.true wide) in
+    let judged : AreOfReply (drop 1 row) = (rw c.row-item.is at c.in_ok-judge_reply.ensures.judged) (all_at (λ (row : Row). length row ≡ 4) rows c.rows.row-index _ c.rows-test.true wide) in
     subst (AllByRecursion (λ (row : Row). AreOfReply (drop 1 row))) (sym (take_more rows c.rows.row-index _ c.rows-test.true))
     (all-append (λ (row : Row). AreOfReply (drop 1 row)) (take c.rows.row-index rows) (row ∷ []) (c.rows.invariant wide) (judged, tt))
 
