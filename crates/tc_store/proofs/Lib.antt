@@ -32,3 +32,4 @@ pub mod StepLemmas
 pub mod CreateLemmas
 pub mod PlainLemmas
 pub mod BackLemmas
+pub mod ReplyBackLemmas

@@ -15,5 +15,10 @@ rows-preserved c wide =
     subst (AllByRecursion (λ (row : Row). AreOfReply (drop 1 row))) (sym (take_more rows c.rows.row-index _ c.rows-test.true))
     (all-append (λ (row : Row). AreOfReply (drop 1 row)) (take c.rows.row-index rows) (row ∷ []) (c.rows.invariant wide) (judged, tt))
 
-pub returns : goal.returns
-returns c wide = subst (AllByRecursion (λ (row : Row). AreOfReply (drop 1 row))) (take_all c.rows.row-index c.args.rows.now (omega (arith, c.rows-test.false))) (c.rows.invariant wide)
+pub returns-clause-judged : goal.returns-clause-judged
+returns-clause-judged c wide = subst (AllByRecursion (λ (row : Row). AreOfReply (drop 1 row))) (take_all c.rows.row-index c.args.rows.now (omega (arith, c.rows-test.false))) (c.rows.invariant wide)
+
+pub returns-in_err-judge_reply-clause-back : goal.returns-in_err-judge_reply-clause-back
+returns-in_err-judge_reply-clause-back c all =
+    let at : AreOfReply (drop 1 c.row-item.row) = ? in
+    search (rules, c.in_err-judge_reply.ensures.back at)
