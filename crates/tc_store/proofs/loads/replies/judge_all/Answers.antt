@@ -1,4 +1,4 @@
-use Rattle.std.proofs.Common.{◌≡◌, ◌∷◌, [], get_or, length, take, drop, arith, subst, sym, take_all}
+use Rattle.std.proofs.Common.{◌≡◌, ◌∷◌, [], get_or, length, take, drop, arith, subst, sym, take_all, rules}
 use Rattle.std.specs.List.{AllByRecursion}
 use Rattle.std.proofs.lemmas.List.{take_more}
 use Rattle.sqlite_value.specs.Order.{Row}
@@ -20,5 +20,5 @@ returns-clause-judged c wide = subst (AllByRecursion (λ (row : Row). AreOfReply
 
 pub returns-in_err-judge_reply-clause-back : goal.returns-in_err-judge_reply-clause-back
 returns-in_err-judge_reply-clause-back c all =
-    let at : AreOfReply (drop 1 c.row-item.row) = ? in
-    search (rules, c.in_err-judge_reply.ensures.back at)
+    let rows = c.args.rows.now in
+    search (rules, (rw c.row-item.is at c.in_err-judge_reply.ensures.back) (all_at (λ (row : Row). AreOfReply (drop 1 row)) rows c.rows.row-index _ c.rows-test.true all))
