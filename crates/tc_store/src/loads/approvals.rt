@@ -10,6 +10,7 @@ ghost use Rattle.tc_store.specs.Approvals.{approval_tree, approval_values};
 ghost use Rattle.tc_store.specs.Schema.{schema_of, HoldsAs};
 ghost use Rattle.tc_store.specs.Loads.{all_approval_columns};
 ghost use Rattle.tc_store.specs.Shows.{ShowsRows};
+ghost use Rattle.tc_store.specs.Writable.{IsWritableApproval};
 ghost use Rattle.tc_store.specs.Reads.{Reads};
 
 use crate::cells::{name_at, request_at};
@@ -26,6 +27,8 @@ impl Loads for Approval {
     ghost shown = { approval_values };
 
     ghost is_told = { λ _. ⊤ };
+
+    ghost is_writable = { IsWritableApproval };
 
     fn read(row: &Row) -> Result<Approval, ReadFault> {
         Ok(Approval {

@@ -1,4 +1,6 @@
 //! What a row of the table `request` shows.
+ghost use Rattle.tc_store.specs.Writable.{IsWritableRequest};
+ghost use Rattle.tc_store.specs.ReadsBack.{OnlyMemory};
 ghost use Rattle.std.specs.Prelude.{◌≡◌, ◌==◌, pos, length, if◌then◌else◌, Some, None, IfOk, IfSome};
 ghost use Rattle.sqlite_value.specs.declared.value.Value.TheVariants.{Int, Text};
 ghost use Rattle.sqlite_value.specs.Order.{column};
@@ -116,6 +118,7 @@ pub(crate) fn read_request(row: &Row) -> Result<PlacedRequest, ReadFault>
     ensures same { IfOk result (λ placed. (was : Was) → IsToldRequest was → row.now ≡ request_given was → placed ≡ was) }
     ensures reads { IfOk result (λ placed. length row.now ≡ 15 → row.now ≡ request_given placed) }
     ensures told { IfOk result (λ placed. IsToldRequest placed) }
+    ensures back { (was : Was) → IsWritableRequest was → row.now ≡ request_given was → OnlyMemory result }
 {
     let number = request_at(row, 0)?;
     let body = body_in(row)?;

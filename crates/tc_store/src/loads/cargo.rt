@@ -10,6 +10,7 @@ ghost use Rattle.tc_store.specs.Cargo.{cargo_tree, cargo_values};
 ghost use Rattle.tc_store.specs.Schema.{HasCargo, schema_of, HoldsAs};
 ghost use Rattle.tc_store.specs.Loads.{all_cargo_columns};
 ghost use Rattle.tc_store.specs.Shows.{ShowsNumber, ShowsRows, ShowsCargo};
+ghost use Rattle.tc_store.specs.Writable.{IsWritableCargo};
 ghost use Rattle.tc_store.specs.Reads.{Reads};
 
 use crate::cells::{moment_at, number_at, position_at, request_at};
@@ -37,6 +38,8 @@ impl Loads for Cargo {
     ghost shown = { cargo_values };
 
     ghost is_told = { λ _. ⊤ };
+
+    ghost is_writable = { IsWritableCargo };
 
     fn read(row: &Row) -> Result<Cargo, ReadFault> {
         Ok(Cargo {

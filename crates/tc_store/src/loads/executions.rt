@@ -10,6 +10,7 @@ ghost use Rattle.tc_store.specs.Executions.{execution_tree, execution_given};
 ghost use Rattle.tc_store.specs.Schema.{schema_of, HoldsAs};
 ghost use Rattle.tc_store.specs.Loads.{all_execution_columns};
 ghost use Rattle.tc_store.specs.Shows.{ShowsRows};
+ghost use Rattle.tc_store.specs.Writable.{IsWritableExecution};
 ghost use Rattle.tc_store.specs.Reads.{Reads};
 
 use crate::cells::{moment_at, name_at, number_at};
@@ -26,6 +27,8 @@ impl Loads for BegunExecution {
     ghost shown = { execution_given };
 
     ghost is_told = { λ _. ⊤ };
+
+    ghost is_writable = { IsWritableExecution };
 
     fn read(row: &Row) -> Result<BegunExecution, ReadFault> {
         Ok(BegunExecution {

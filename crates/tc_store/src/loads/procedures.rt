@@ -10,6 +10,7 @@ ghost use Rattle.tc_store.specs.Procedures.{procedure_tree, procedure_values};
 ghost use Rattle.tc_store.specs.Schema.{schema_of, HoldsAs};
 ghost use Rattle.tc_store.specs.Loads.{all_procedure_columns};
 ghost use Rattle.tc_store.specs.Shows.{ShowsRows};
+ghost use Rattle.tc_store.specs.Writable.{IsWritableProcedure};
 ghost use Rattle.tc_store.specs.Reads.{Reads};
 
 use crate::cells::name_at;
@@ -26,6 +27,8 @@ impl Loads for LoadedProcedure {
     ghost shown = { procedure_values };
 
     ghost is_told = { λ _. ⊤ };
+
+    ghost is_writable = { IsWritableProcedure };
 
     fn read(row: &Row) -> Result<LoadedProcedure, ReadFault> {
         Ok(LoadedProcedure {

@@ -12,6 +12,7 @@ ghost use Rattle.tc_store.specs.Schema.{schema_of, HoldsAs};
 ghost use Rattle.tc_store.specs.Told.{IsTold, IsToldRequest};
 ghost use Rattle.tc_store.specs.Loads.{all_request_columns};
 ghost use Rattle.tc_store.specs.Shows.{ShowsRows};
+ghost use Rattle.tc_store.specs.Writable.{IsWritableRequest};
 ghost use Rattle.tc_store.specs.Reads.{Reads};
 
 use crate::faults::ReadFault;
@@ -29,6 +30,8 @@ impl Loads for PlacedRequest {
     ghost shown = { request_given };
 
     ghost is_told = { IsToldRequest };
+
+    ghost is_writable = { IsWritableRequest };
 
     fn read(row: &Row) -> Result<PlacedRequest, ReadFault> {
         read_request(row)

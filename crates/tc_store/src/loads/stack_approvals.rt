@@ -10,6 +10,7 @@ ghost use Rattle.tc_store.specs.StackApprovals.{stack_approval_tree, stack_appro
 ghost use Rattle.tc_store.specs.Schema.{schema_of, HoldsAs};
 ghost use Rattle.tc_store.specs.Loads.{all_stack_approval_columns};
 ghost use Rattle.tc_store.specs.Shows.{ShowsRows};
+ghost use Rattle.tc_store.specs.Writable.{IsWritableStackApproval};
 ghost use Rattle.tc_store.specs.Reads.{Reads};
 
 use crate::cells::name_at;
@@ -26,6 +27,8 @@ impl Loads for StackApproval {
     ghost shown = { stack_approval_values };
 
     ghost is_told = { λ _. ⊤ };
+
+    ghost is_writable = { IsWritableStackApproval };
 
     fn read(row: &Row) -> Result<StackApproval, ReadFault> {
         Ok(StackApproval {

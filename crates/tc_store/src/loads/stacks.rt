@@ -10,6 +10,7 @@ ghost use Rattle.tc_store.specs.Stacks.{stack_tree, stack_values};
 ghost use Rattle.tc_store.specs.Schema.{schema_of, HoldsAs};
 ghost use Rattle.tc_store.specs.Loads.{all_stack_columns};
 ghost use Rattle.tc_store.specs.Shows.{ShowsRows};
+ghost use Rattle.tc_store.specs.Writable.{IsWritableStack};
 ghost use Rattle.tc_store.specs.Reads.{Reads};
 
 use crate::cells::{flag_at, name_at};
@@ -26,6 +27,8 @@ impl Loads for LoadedStack {
     ghost shown = { stack_values };
 
     ghost is_told = { λ _. ⊤ };
+
+    ghost is_writable = { IsWritableStack };
 
     fn read(row: &Row) -> Result<LoadedStack, ReadFault> {
         Ok(LoadedStack {

@@ -12,6 +12,7 @@ ghost use Rattle.tc_store.specs.Schema.{schema_of, HoldsAs};
 ghost use Rattle.tc_store.specs.Told.{IsTold, IsToldStep};
 ghost use Rattle.tc_store.specs.Loads.{all_step_columns};
 ghost use Rattle.tc_store.specs.Shows.{ShowsRows};
+ghost use Rattle.tc_store.specs.Writable.{IsWritableStep};
 ghost use Rattle.tc_store.specs.Reads.{Reads};
 
 use crate::cells::{flag_at, name_at, number_at, released_at, step_text_at};
@@ -28,6 +29,8 @@ impl Loads for ProcedureStep {
     ghost shown = { step_values };
 
     ghost is_told = { IsToldStep };
+
+    ghost is_writable = { IsWritableStep };
 
     fn read(row: &Row) -> Result<ProcedureStep, ReadFault> {
         Ok(ProcedureStep {

@@ -10,6 +10,7 @@ ghost use Rattle.tc_store.specs.Tallies.{tally_tree, tally_given};
 ghost use Rattle.tc_store.specs.Schema.{schema_of, HoldsAs};
 ghost use Rattle.tc_store.specs.Loads.{all_tally_columns};
 ghost use Rattle.tc_store.specs.Shows.{ShowsRows};
+ghost use Rattle.tc_store.specs.Writable.{IsWritableTally};
 ghost use Rattle.tc_store.specs.Reads.{Reads};
 
 use crate::cells::{number_at, place_at};
@@ -26,6 +27,8 @@ impl Loads for Tally {
     ghost shown = { tally_given };
 
     ghost is_told = { λ _. ⊤ };
+
+    ghost is_writable = { IsWritableTally };
 
     fn read(row: &Row) -> Result<Tally, ReadFault> {
         Ok(Tally {
