@@ -1,4 +1,6 @@
 //! The table `cargo`, in the order in which its rows were written.
+ghost use Rattle.tc_types.specs.declared.tables.cargo.Cargo.{Cargo as SomeCargo};
+ghost use Rattle.tc_store.specs.ReadsBack.{OnlyMemory};
 ghost use Rattle.std.specs.Prelude.{◌≡◌, map, IfOk, ⊤};
 ghost use Rattle.sqlite.specs.State.{HasCleanDisk};
 ghost use Rattle.sqlite.specs.Held.{state};
@@ -27,6 +29,7 @@ const ALL: &str = "SELECT request, position, target, at_time FROM cargo ORDER BY
 /// What is named there, in the columns 2 and 3.
 fn ride_in(row: &Row) -> Result<Ride, ReadFault>
     ensures reads { IfOk result (λ ride. ShowsNumber row.now 2 ride.target × ShowsNumber row.now 3 ride.time) }
+    ensures back { (was : SomeCargo) → IsWritableCargo was → row.now ≡ cargo_values was → OnlyMemory result }
 {
     Ok(Ride {
         target: number_at(row, 2)?,

@@ -1,4 +1,6 @@
 //! The table `step`, in the order in which the steps were loaded.
+ghost use Rattle.tc_store.specs.Writable.{IsWritable};
+ghost use Rattle.tc_store.specs.ReadsBack.{ReadsBack};
 ghost use Rattle.std.specs.Prelude.{◌≡◌, map, IfOk};
 ghost use Rattle.std.specs.List.{AllByRecursion};
 ghost use Rattle.sqlite.specs.State.{HasCleanDisk};
@@ -51,6 +53,7 @@ pub(crate) fn load_steps<S: Alter>(
     ensures rows { HasCleanDisk (state S.Store conn.new) → IfOk result (λ found. (version : SomeVersion) (ledger : Ledger) → IsTold ledger.image → HoldsAs version (state S.Store conn.old).now ledger → found.items ≡ ledger.image.steps) }
     ensures reads { Reads S.Store (λ db found. (layout : SomeLayout) (version : SomeVersion) → db.schema ≡ schema_of layout version → ShowsRows (db.trees (step_tree layout)) all_step_columns (map step_values found.items)) conn.old conn.new result }
     ensures told { IfOk result (λ found. AllByRecursion IsToldStep found.items) }
+    ensures back { HasCleanDisk (state S.Store conn.new) → (version : SomeVersion) (ledger : Ledger) → HoldsAs version (state S.Store conn.old).now ledger → IsWritable ledger.image → ReadsBack result }
 {
     let rows = rows_of(conn, ALL, &[])?;
     read_all(alloc, rows.as_slice())
