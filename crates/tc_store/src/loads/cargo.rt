@@ -57,6 +57,7 @@ impl Loads for Cargo {
 fn read_rows<S: Alter>(conn: &mut Connection<S>, alloc: Global) -> Result<Vec<Cargo>, ReadFault>
     ensures rows { HasCleanDisk (state S.Store conn.new) → IfOk result (λ found. (of : SomeVersion) (ledger : Ledger) → HasCargo of → HoldsAs of (state S.Store conn.old).now ledger → found.items ≡ ledger.image.cargo) }
     ensures reads { Reads S.Store (λ db found. (layout : SomeLayout) (of : SomeVersion) → db.schema ≡ schema_of layout of → HasCargo of → ShowsRows (db.trees (cargo_tree layout)) all_cargo_columns (map cargo_values found.items)) conn.old conn.new result }
+    ensures back { HasCleanDisk (state S.Store conn.new) → (version : SomeVersion) (ledger : Ledger) → HasCargo version → HoldsAs version (state S.Store conn.old).now ledger → IsWritable ledger.image → ReadsBack result }
 {
     let rows = rows_of(conn, ALL, &[])?;
     read_all(alloc, rows.as_slice())
@@ -70,6 +71,7 @@ pub(crate) fn load_cargo<S: Alter>(
 ) -> Result<Vec<Cargo>, ReadFault>
     ensures rows { HasCleanDisk (state S.Store conn.new) → IfOk result (λ found. (of : SomeVersion) (ledger : Ledger) → of ≡ version → HoldsAs of (state S.Store conn.old).now ledger → found.items ≡ ledger.image.cargo) }
     ensures reads { Reads S.Store (λ db found. (layout : SomeLayout) (of : SomeVersion) → db.schema ≡ schema_of layout of → of ≡ version → ShowsCargo layout version db found.items) conn.old conn.new result }
+    ensures back { HasCleanDisk (state S.Store conn.new) → (of : SomeVersion) (ledger : Ledger) → of ≡ version → HoldsAs of (state S.Store conn.old).now ledger → IsWritable ledger.image → ReadsBack result }
 {
     match version {
         Version::First | Version::Second => Ok(Vec::new(alloc)),
