@@ -1,4 +1,6 @@
 //! The table `cargo`, in the order in which its rows were written.
+ghost use Rattle.tc_store.specs.ReadsBack.{ReadsBack};
+ghost use Rattle.tc_store.specs.Writable.{IsWritable};
 ghost use Rattle.tc_types.specs.declared.tables.cargo.Cargo.{Cargo as SomeCargo};
 ghost use Rattle.tc_store.specs.ReadsBack.{OnlyMemory};
 ghost use Rattle.std.specs.Prelude.{◌≡◌, map, IfOk, ⊤};

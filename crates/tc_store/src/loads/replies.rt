@@ -1,4 +1,5 @@
 //! The table `reply`, judged in pages, of which none is kept.
+ghost use Rattle.tc_store.specs.ReadsBack.{ReadsBack};
 ghost use Rattle.sqlite.specs.Held.{state};
 ghost use Rattle.sqlite.specs.State.{HasCleanDisk};
 ghost use Rattle.tc_store.specs.Schema.{HasReplies};
