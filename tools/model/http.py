@@ -90,7 +90,7 @@ IS_NUMBER, IS_MOMENT = number_to(LAST_NUMBER), number_to(LAST_MOMENT)
 QUESTIONS: list[tuple[re.Pattern[bytes], str, Callable[[bytes], bool]]] = [
     (re.compile(rb"/places"), "places", IS_NUMBER), (re.compile(rb"/requests/([^/]+)"), "request", IS_NUMBER),
     (re.compile(rb"/history/([^/]+)/([^/]+)"), "history", IS_NUMBER), (re.compile(rb"/report/([^/]+)/([^/]+)"), "report", IS_MOMENT),
-    (re.compile(rb"/waiting"), "waiting", IS_NUMBER), (re.compile(rb"/moves/([^/]+)"), "moves", IS_NUMBER),
+    (re.compile(rb"/waiting"), "waiting", IS_NUMBER), (re.compile(rb"/urgent/([^/]+)"), "urgent", IS_NUMBER), (re.compile(rb"/moves/([^/]+)"), "moves", IS_NUMBER),
     (re.compile(rb"/procedures/([^/]+)"), "steps", lambda text: is_name(text.decode("utf-8")))]
 # What no act asks for.
 VIEWS: dict[bytes, Union[Shows, Tells]] = {b"/board": Shows(), b"/opening": Tells()}

@@ -150,7 +150,7 @@ SHAPES: dict[str, tuple[Reader, ...]] = {
     "step": (number, number, one_of(*VERDICTS), second), "terminate": (), "tick": (), "up": (), "loseup": (number,),
     "losedown": (number,), "clcw": (), "down": (), "work": (), "clock": (moment,), "places": (), "history": (number, number),
     "request": (number,), "link": (), "schedule": (), "log": (number,), "report": (moment, moment),
-    "waiting": (), "moves": (number,), "standing": (one_of(*PLACE_WORDS), number), "steps": (name,),
+    "waiting": (), "urgent": (number,), "moves": (number,), "standing": (one_of(*PLACE_WORDS), number), "steps": (name,),
     "initiate none": (), "initiate check": (), "initiate unlock": (), "initiate setvr": (BYTE,),
     "set vs": (BYTE,), "set k": (between(1, LAST_K),), "set t1": (between(1, LAST_T1),), "set limit": (between(1, LAST_LIMIT),),
 }

@@ -118,6 +118,7 @@ PATH = Slot(path, "a path without a space", None)
 STEP = numbered("an execution", numbered("a step", Slot(one_of(*VERDICTS), "done, skipped or failed", Slot(second, "a person, or - for none", None))))
 ITEM = Slot(number, "the place of an item, from 0, in plain digits", None)
 AFTER = Slot(number, "the number of a move, or 0, in plain digits", None)
+FROM_LINE = Slot(number, "the number of a line in plain digits", None)
 HISTORY = numbered("a request", AFTER)
 STANDING = Slot(one_of(*PLACE_WORDS), "a place as it is printed, such as Approved", Slot(number, "the number of a request, or 0, in plain digits", None))
 INITIATION = Slot(one_of("none", "check", "unlock", "setvr"), "none, check, unlock or setvr", lambda word: BYTE if word == "setvr" else None)
@@ -126,7 +127,7 @@ VERBS: dict[str, Optional[Slot]] = {
     "enter": ENTRY, "withdraw": REQUEST, "approve": REQUEST, "close": REQUEST, "release": REQUEST, "request": REQUEST, "approvestack": NAME,
     "begin": NAME, "step": STEP, "initiate": INITIATION, "set": Slot(one_of(*SET), "vs, k, t1 or limit", SET.get), "loseup": ITEM, "losedown": ITEM,
     "clock": one_moment(), "history": HISTORY, "log": numbered("an execution"), "report": one_moment(one_moment()), "stack": NAME._replace(behind=PATH),
-    "procedure": NAME._replace(behind=PATH), "moves": AFTER, "standing": STANDING, "steps": NAME,
+    "procedure": NAME._replace(behind=PATH), "moves": AFTER, "urgent": FROM_LINE, "standing": STANDING, "steps": NAME,
     **dict.fromkeys(("terminate", "tick", "up", "clcw", "down", "work", "places", "link", "schedule", "waiting")),
 }
 LINE = one_moment(Slot(person, "a person, 1 to 16 of a-z and 0-9 and not desk", Slot(one_of(*VERBS), "an act, a question or a load", VERBS.get)))

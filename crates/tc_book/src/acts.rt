@@ -54,6 +54,7 @@ pub fn refusal_of<A: Allocator + Copy + Drop>(records: &Records<A>, query: Query
         | Query::Schedule
         | Query::Report { .. }
         | Query::Waiting
+        | Query::Urgent { .. }
         | Query::Moves { .. }
         | Query::Standing { .. } => None,
         Query::Steps { procedure } => {

@@ -60,7 +60,7 @@ idle = record { content = []; covered = 0 }
 abbrev desk_of : Book → State (InFlight Frame) (InFlight Report)
 desk_of book = record (new_desk (record { window = 20; channel = 3; ring = None }) idle idle) { book = book }
 
--- the reply to a question, where it is neither of the schedule nor a report
+-- the reply to a question, where it is neither of the schedule nor of what is urgent, nor a report
 abbrev told : Book → Query → Reply
 told book query.Places = places_line (length (entered book.history)) (counts_of book.history) ∷ []
 told book (query.History n after) = history_lines n (rows_past n after book.history)
@@ -70,22 +70,24 @@ told book query.Schedule = []
 told book (query.Log execution) = log_lines book.log (execution_at book.log execution)
 told book (query.Report from to) = []
 told book query.Waiting = waiting_lines (waiting_of book)
+told book (query.Urgent from) = []
 told book (query.Moves after) = moves_lines (drop after book.history)
 told book (query.Standing place after) = standing_lines place (standing_past book place after)
 told book (query.Steps procedure) = procedure_lines (procedure_at book.log procedure) (steps_of book.log procedure)
 
-told-replies : (book : Book) (asked : Query) → (asked ≡ query.Schedule → ⊥) → ((from to : ℕ) → asked ≡ query.Report from to → ⊥) → Replies listed listed (desk_of book) asked (told book asked)
-told-replies book query.Places other no_report = refl
-told-replies book (query.History n after) other no_report = refl
-told-replies book (query.Request n) other no_report = refl
-told-replies book query.Link other no_report = refl
-told-replies book query.Schedule other no_report = absurd (other refl)
-told-replies book (query.Log execution) other no_report = refl
-told-replies book (query.Report from to) other no_report = absurd (no_report from to refl)
-told-replies book query.Waiting other no_report = refl
-told-replies book (query.Moves after) other no_report = refl
-told-replies book (query.Standing place after) other no_report = refl
-told-replies book (query.Steps procedure) other no_report = refl
+told-replies : (book : Book) (asked : Query) → (asked ≡ query.Schedule → ⊥) → ((from to : ℕ) → asked ≡ query.Report from to → ⊥) → ((from : ℕ) → asked ≡ query.Urgent from → ⊥) → Replies listed listed (desk_of book) asked (told book asked)
+told-replies book query.Places other no_report no_urgent = refl
+told-replies book (query.History n after) other no_report no_urgent = refl
+told-replies book (query.Request n) other no_report no_urgent = refl
+told-replies book query.Link other no_report no_urgent = refl
+told-replies book query.Schedule other no_report no_urgent = absurd (other refl)
+told-replies book (query.Log execution) other no_report no_urgent = refl
+told-replies book (query.Report from to) other no_report no_urgent = absurd (no_report from to refl)
+told-replies book query.Waiting other no_report no_urgent = refl
+told-replies book (query.Urgent from) other no_report no_urgent = absurd (no_urgent from refl)
+told-replies book (query.Moves after) other no_report no_urgent = refl
+told-replies book (query.Standing place after) other no_report no_urgent = refl
+told-replies book (query.Steps procedure) other no_report no_urgent = refl
 
 -- the reply where no test holds
 abbrev served : Book → Stamp → Act → Reply

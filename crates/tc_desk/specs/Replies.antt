@@ -35,6 +35,7 @@ use Rattle.tc_book.specs.Waiting.{standing_past, waiting_of}
 use Rattle.tc_desk.specs.declared.firsts.FirstLine.{FirstLine}
 use Rattle.tc_desk.specs.declared.firsts.FirstLine.TheVariants as first
 use Rattle.tc_desk.specs.State.{State}
+use Rattle.tc_urgent.specs.Pages.{ShowsUrgent}
 use Rattle.tc_desk.specs.StatusLines.{premise_word, status_lines, status_of, told_line}
 
 abbrev pub Reply : Type 0
@@ -123,7 +124,11 @@ abbrev pub procedure_lines : Option LoadedProcedure → List ProcedureStep → R
 procedure_lines None steps = []
 procedure_lines (Some loaded) steps = procedure_head_line loaded (length steps) ∷ map step_line steps
 
--- the reply to a question
+-- the requests of the activities that the mirror has on board
+abbrev pub requests_in : MirrorState → List ℕ
+requests_in mirror = map (λ (a : ListedActivity). a.request) mirror.activities
+
+-- The reply to a question. What is urgent is shown by some number of moves at the opening; which one it is a room tells.
 abbrev pub Replies : {U D : Type 0} → Kind U Frame → Kind D Report → State U D → Query → Reply → Type 0
 Replies up down at query.Places reply = reply ≡ places_line (length (entered at.book.history)) (counts_of at.book.history) ∷ []
 Replies up down at (query.History n after) reply = reply ≡ history_lines n (rows_past n after at.book.history)
@@ -132,6 +137,7 @@ Replies up down at query.Link reply = reply ≡ status_lines (status_of up down 
 Replies up down at query.Schedule reply = ShowsSchedule at.mirror reply
 Replies up down at (query.Log execution) reply = reply ≡ log_lines at.book.log (execution_at at.book.log execution)
 Replies up down at query.Waiting reply = reply ≡ waiting_lines (waiting_of at.book)
+Replies up down at (query.Urgent from) reply = (opened : ℕ) × ShowsUrgent at.book opened (requests_in at.mirror) from reply
 Replies up down at (query.Moves after) reply = reply ≡ moves_lines (drop after at.book.history)
 Replies up down at (query.Standing place after) reply = reply ≡ standing_lines place (standing_past at.book place after)
 Replies up down at (query.Steps procedure) reply = reply ≡ procedure_lines (procedure_at at.book.log procedure) (steps_of at.book.log procedure)

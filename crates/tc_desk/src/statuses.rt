@@ -1,5 +1,8 @@
-//! What the questions `link` and `schedule` tell.
-use std::alloc::Allocator;
+//! What the questions `link` and `schedule` tell, and which requests the mirror has on board.
+ghost use Rattle.std.specs.Prelude.{◌≡◌, IfOk, map};
+ghost use Rattle.tc_types.specs.declared.link.activities.ListedActivity.{ListedActivity as SomeActivity};
+
+use std::alloc::{AllocError, Allocator};
 use tc_farm::FarmView;
 use tc_fop::FopView;
 use tc_types::ListedActivity;
@@ -27,4 +30,18 @@ pub struct KnownSchedule<A: Allocator + Copy + Drop> {
     pub enabled: bool,
     /// Its activities, by time, application process and count.
     pub activities: Vec<ListedActivity, A>,
+}
+
+/// The requests of these activities. Fails where memory is refused.
+pub(crate) fn requests_in<A: Allocator>(
+    alloc: A,
+    activities: &[ListedActivity],
+) -> Result<Vec<u32, A>, AllocError>
+    ensures { IfOk result (λ requests. requests.items ≡ map (λ (a : SomeActivity). a.request) activities.now) }
+{
+    let mut requests = Vec::new(alloc);
+    for activity in activities {
+        requests.push(activity.request.get())?;
+    }
+    Ok(requests)
 }

@@ -9,13 +9,13 @@ use Rattle.matchit.specs.Router.{RouteOf}
 use Rattle.tc_types.specs.Words.{words}
 use Rattle.tc_front.specs.declared.routes.RouteKind.{RouteKind}
 use Rattle.tc_front.specs.declared.routes.RouteKind.TheVariants as kind
-use Rattle.tc_front.specs.Paths.{Named, same, is_filled, two_texts, path_of, one_text, procedures, request as request_named, history as history_named, report as report_named, moves as moves_named, procedure as procedure_named}
+use Rattle.tc_front.specs.Paths.{Named, same, is_filled, two_texts, path_of, one_text, procedures, request as request_named, history as history_named, report as report_named, urgent as urgent_named, moves as moves_named, procedure as procedure_named}
 use Rattle.tc_front.specs.Routes.{KindRoutes, desk_routes, named_at, first_text, second_text}
 use Rattle.tc_front.proofs.SeekLaws.{steps, is_plain, no_rows, text_steps, fits, any_fits, unfit, one_param, two_params, last_param, no_second, first_param, no_first}
 use Rattle.tc_front.proofs.PathLaws.{Whole, Parted, parted, has_slash-parted, IsNoLast, some_word, same_refl, is_word, goes_on, one_no_last, one_last, same_either, filled_is}
 use Rattle.tc_front.proofs.WalkLaws.{is_ascii, one_walk, two_walk}
 use Rattle.tc_front.proofs.TextLaws.{bytes_text, ascii_text, text_parts, bytes_behind}
-use Rattle.tc_front.proofs.RouteLaws.{history, moves, procedure, report, request, rows, desk_rows}
+use Rattle.tc_front.proofs.RouteLaws.{history, moves, procedure, report, request, urgent, rows, desk_rows}
 
 abbrev pub pairs_of : RouteOf RouteKind → List ℕ → List (List ℕ × List ℕ)
 pairs_of route path = walk route.pattern route.text path route.names 0 0
@@ -86,6 +86,10 @@ opening_more path = no_more (codes "/opening/") path refl refl (goes_on _ path)
 wall_more : (path : List ℕ) → Finds (codes "/board/" ++ path)
 wall_more path = no_more (codes "/board/") path refl refl (goes_on _ path)
 
+urgent_alone : Finds (codes "/urgent")
+unfolding seek
+urgent_alone = subst (IsRouted (codes "/urgent")) (sym (text_steps (codes "/urgent") [] rows refl)) refl
+
 moves_alone : Finds (codes "/moves")
 unfolding seek
 moves_alone = subst (IsRouted (codes "/moves")) (sym (text_steps (codes "/moves") [] rows refl)) refl
@@ -149,6 +153,12 @@ request_more : (path : List ℕ) → IsText path → IsUtf8 path → Finds (code
 request_more path small whole =
     one_more (codes "/requests/") request.text (11, 17) kind.Request request_named
     (record { ascii = refl; plain = refl; left = refl; said = λ path. refl; at = λ first second. refl; names = ascii_text (codes "number") refl })
+    path small whole
+
+urgent_more : (path : List ℕ) → IsText path → IsUtf8 path → Finds (codes "/urgent/" ++ path)
+urgent_more path small whole =
+    one_more (codes "/urgent/") urgent.text (9, 13) kind.Urgent urgent_named
+    (record { ascii = refl; plain = refl; left = refl; said = λ path. refl; at = λ first second. refl; names = ascii_text (codes "from") refl })
     path small whole
 
 moves_more : (path : List ℕ) → IsText path → IsUtf8 path → Finds (codes "/moves/" ++ path)
@@ -282,24 +292,25 @@ data Name (word : List ℕ) : Type 0 where
   is_history : word ≡ codes "history" → Name word
   is_report : word ≡ codes "report" → Name word
   is_waiting : word ≡ codes "waiting" → Name word
+  is_urgent : word ≡ codes "urgent" → Name word
   is_moves : word ≡ codes "moves" → Name word
   is_wall : word ≡ codes "board" → Name word
   is_opening : word ≡ codes "opening" → Name word
   is_none : same word (codes "acts") ≡ false → same word (codes "stacks") ≡ false → same word (codes "procedures") ≡ false → same word (codes "places") ≡ false
       → same word (codes "requests") ≡ false → same word (codes "history") ≡ false → same word (codes "report") ≡ false → same word (codes "waiting") ≡ false → same word (codes "moves") ≡ false
-      → same word (codes "board") ≡ false → same word (codes "opening") ≡ false → Name word
+      → same word (codes "urgent") ≡ false → same word (codes "board") ≡ false → same word (codes "opening") ≡ false → Name word
 
 name_of : (word : List ℕ) → Name word
 name_of word =
-    ⊎_elim is_acts (λ a. ⊎_elim is_stacks (λ b. ⊎_elim is_procedures (λ c. ⊎_elim is_places (λ d. ⊎_elim is_requests (λ e. ⊎_elim is_history (λ f. ⊎_elim is_report (λ g. ⊎_elim is_waiting (λ h. ⊎_elim is_moves (λ i. ⊎_elim is_wall (λ j. ⊎_elim is_opening (λ k. is_none a b c d e f g h i j k)
-    (is_word word (codes "opening"))) (is_word word (codes "board"))) (is_word word (codes "moves"))) (is_word word (codes "waiting"))) (is_word word (codes "report"))) (is_word word (codes "history"))) (is_word word (codes "requests"))) (is_word word (codes "places"))) (is_word word (codes "procedures")))
+    ⊎_elim is_acts (λ a. ⊎_elim is_stacks (λ b. ⊎_elim is_procedures (λ c. ⊎_elim is_places (λ d. ⊎_elim is_requests (λ e. ⊎_elim is_history (λ f. ⊎_elim is_report (λ g. ⊎_elim is_waiting (λ h. ⊎_elim is_moves (λ i. ⊎_elim is_urgent (λ l. ⊎_elim is_wall (λ j. ⊎_elim is_opening (λ k. is_none a b c d e f g h i l j k)
+    (is_word word (codes "opening"))) (is_word word (codes "board"))) (is_word word (codes "urgent"))) (is_word word (codes "moves"))) (is_word word (codes "waiting"))) (is_word word (codes "report"))) (is_word word (codes "history"))) (is_word word (codes "requests"))) (is_word word (codes "places"))) (is_word word (codes "procedures")))
     (is_word word (codes "stacks"))) (is_word word (codes "acts"))
 
 no_name : (path word : List ℕ) (more : List (List ℕ)) → words 47 path ≡ word ∷ more
     → same word (codes "acts") ≡ false → same word (codes "stacks") ≡ false → same word (codes "procedures") ≡ false → same word (codes "places") ≡ false
-    → same word (codes "requests") ≡ false → same word (codes "history") ≡ false → same word (codes "report") ≡ false → same word (codes "waiting") ≡ false → same word (codes "moves") ≡ false → same word (codes "board") ≡ false → same word (codes "opening") ≡ false → Finds (47 ∷ path)
-no_name path word more cut a b c d e f g h i j k =
-    subst (IsRouted (47 ∷ path)) (sym (unfit (47 ∷ path) rows none)) (rw cut (rw a (rw b (rw c (rw d (rw e (rw f (rw g (rw h (rw i (rw j (rw k refl))))))))))))
+    → same word (codes "requests") ≡ false → same word (codes "history") ≡ false → same word (codes "report") ≡ false → same word (codes "waiting") ≡ false → same word (codes "moves") ≡ false → same word (codes "urgent") ≡ false → same word (codes "board") ≡ false → same word (codes "opening") ≡ false → Finds (47 ∷ path)
+no_name path word more cut a b c d e f g h i l j k =
+    subst (IsRouted (47 ∷ path)) (sym (unfit (47 ∷ path) rows none)) (rw cut (rw a (rw b (rw c (rw d (rw e (rw f (rw g (rw h (rw l (rw i (rw j (rw k refl)))))))))))))
   where
     none : any_fits rows (47 ∷ path) ≡ false
     none =
@@ -314,7 +325,8 @@ no_name path word more cut a b c d e f g h i j k =
         (or_from _ _ (not_front (codes "report") (param_token ∷ slash ∷ param_token ∷ []) path word more cut g refl (λ rest. refl))
         (or_from _ _ (not_front (codes "requests") (param_token ∷ []) path word more cut e refl (λ rest. refl))
         (or_from _ _ (not_alone (codes "stacks") path word more cut b refl refl)
-        (or_from _ _ (not_alone (codes "waiting") path word more cut h refl refl) refl)))))))))))
+        (or_from _ _ (not_front (codes "urgent") (param_token ∷ []) path word more cut l refl (λ rest. refl))
+        (or_from _ _ (not_alone (codes "waiting") path word more cut h refl refl) refl))))))))))))
 
 -- ---- the law
 
@@ -327,10 +339,11 @@ alone path w (is_requests e) = subst (λ l. Finds (47 ∷ l)) (sym e) request_al
 alone path w (is_history e) = subst (λ l. Finds (47 ∷ l)) (sym e) history_alone
 alone path w (is_report e) = subst (λ l. Finds (47 ∷ l)) (sym e) report_alone
 alone path w (is_waiting e) = subst (λ l. Finds (47 ∷ l)) (sym e) waiting_alone
+alone path w (is_urgent e) = subst (λ l. Finds (47 ∷ l)) (sym e) urgent_alone
 alone path w (is_moves e) = subst (λ l. Finds (47 ∷ l)) (sym e) moves_alone
 alone path w (is_wall e) = subst (λ l. Finds (47 ∷ l)) (sym e) wall_alone
 alone path w (is_opening e) = subst (λ l. Finds (47 ∷ l)) (sym e) opening_alone
-alone path w (is_none a b c d e f g h i j k) = no_name path path [] w.cut a b c d e f g h i j k
+alone path w (is_none a b c d e f g h i l j k) = no_name path path [] w.cut a b c d e f g h i l j k
 
 more : (path : List ℕ) (p : Parted path) → IsText p.rest → IsUtf8 p.rest → Name p.word → Finds (47 ∷ path)
 more path p small whole name = by name
@@ -347,10 +360,11 @@ more path p small whole name = by name
     by (is_history e) = at (codes "history") e (history_more p.rest small whole)
     by (is_report e) = at (codes "report") e (report_more p.rest small whole)
     by (is_waiting e) = at (codes "waiting") e (waiting_more p.rest)
+    by (is_urgent e) = at (codes "urgent") e (urgent_more p.rest small whole)
     by (is_moves e) = at (codes "moves") e (moves_more p.rest small whole)
     by (is_wall e) = at (codes "board") e (wall_more p.rest)
     by (is_opening e) = at (codes "opening") e (opening_more p.rest)
-    by (is_none a b c d e f g h i j k) = no_name path p.word (words 47 p.rest) p.cut a b c d e f g h i j k
+    by (is_none a b c d e f g h i l j k) = no_name path p.word (words 47 p.rest) p.cut a b c d e f g h i l j k
 
 behind : (path : List ℕ) → IsText path → IsUtf8 path → Finds (47 ∷ path)
 behind path small whole = by (parted path)

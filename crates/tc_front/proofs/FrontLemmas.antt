@@ -14,9 +14,9 @@ use Rattle.tc_front.specs.declared.judge.Judgement.{Judgement}
 use Rattle.tc_front.specs.declared.judge.Judgement.TheVariants as judgement
 use Rattle.tc_front.specs.declared.front.Decision.{Decision}
 use Rattle.tc_front.specs.declared.judge.Refused.TheVariants.{Large}
-use Rattle.tc_front.specs.Paths.{Texts, places_text, request_text, history_text, report_text, waiting_text, moves_text, procedure_text, Named, posts_to, asks_for, shows_wall, tells_opening, path_of}
+use Rattle.tc_front.specs.Paths.{Texts, places_text, request_text, history_text, report_text, waiting_text, urgent_text, moves_text, procedure_text, Named, posts_to, asks_for, shows_wall, tells_opening, path_of}
 use Rattle.tc_front.specs.Fields.{Held, absent, single, several}
-use Rattle.tc_front.specs.Judge.{both, AsksFor, AsksRequest, AsksHistory, AsksReport, AsksMoves, AsksProcedure, JudgesQuestion, JudgesGet, JudgesLength, JudgesPost, JudgesBody, JudgesCoding, JudgesPath, JudgesHead, Judges, asked_or_bad, without_body}
+use Rattle.tc_front.specs.Judge.{both, AsksFor, AsksRequest, AsksHistory, AsksReport, AsksUrgent, AsksMoves, AsksProcedure, JudgesQuestion, JudgesGet, JudgesLength, JudgesPost, JudgesBody, JudgesCoding, JudgesPath, JudgesHead, Judges, asked_or_bad, without_body}
 use Rattle.tc_front.specs.Ends.{head_end, skip_ends}
 use Rattle.tc_front.specs.Front.{Asked, refuses, asked_of, Completes, IsDecidedAt, IsDecided, Waits}
 use Rattle.tc_front.specs.Read.{NoFront}
@@ -51,6 +51,9 @@ one_report : (first second : List ℕ) → IsOne (AsksReport first second)
 one_report first second q r (n, n', a, a', e) (m, m', b, b', f) =
     e ∙ ap₂ (λ x y. both (λ n m. query.Report n m) x y) (reads_unique first n m a b) (reads_unique second n' m' a' b') ∙ sym f
 
+one_urgent : (first : List ℕ) → IsOne (AsksUrgent first)
+one_urgent first q r (n, a, e) (m, b, f) = e ∙ ap (λ x. option_map (λ n. query.Urgent n) x) (reads_unique first n m a b) ∙ sym f
+
 one_moves : (first : List ℕ) → IsOne (AsksMoves first)
 one_moves first q r (n, a, e) (m, b, f) = e ∙ ap (λ x. option_map (λ n. query.Moves n) x) (reads_unique first n m a b) ∙ sym f
 
@@ -63,6 +66,7 @@ one_asked (request_text number) = one_request number
 one_asked (history_text first after) = one_history first after
 one_asked (report_text from to) = one_report from to
 one_asked waiting_text = one_is (Some query.Waiting)
+one_asked (urgent_text from) = one_urgent from
 one_asked (moves_text after) = one_moves after
 one_asked (procedure_text name) = one_procedure name
 

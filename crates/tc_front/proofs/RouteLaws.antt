@@ -45,6 +45,9 @@ request = route (codes "/requests/" ++ param_token ∷ []) (codes "/requests/{nu
 abbrev pub stacks : RouteOf RouteKind
 stacks = route (codes "/stacks") (codes "/stacks") [] kind.Stacks
 
+abbrev pub urgent : RouteOf RouteKind
+urgent = route (codes "/urgent/" ++ param_token ∷ []) (codes "/urgent/{from}") ((9, 13) ∷ []) kind.Urgent
+
 abbrev pub waiting : RouteOf RouteKind
 waiting = route (codes "/waiting") (codes "/waiting") [] kind.Waiting
 
@@ -53,7 +56,7 @@ row route = (route.pattern, route)
 
 -- the rows in their order: one that goes on comes before what it starts with
 abbrev pub rows : KindRoutes
-rows = row acts ∷ row wall ∷ row history ∷ row moves ∷ row opening ∷ row places ∷ row procedure ∷ row procedures ∷ row report ∷ row request ∷ row stacks ∷ row waiting ∷ []
+rows = row acts ∷ row wall ∷ row history ∷ row moves ∷ row opening ∷ row places ∷ row procedure ∷ row procedures ∷ row report ∷ row request ∷ row stacks ∷ row urgent ∷ row waiting ∷ []
 
 pub desk_rows : desk_routes ≡ rows
 unfolding matchit_on_literals with_route desk_routes

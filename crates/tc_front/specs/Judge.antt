@@ -16,7 +16,7 @@ use Rattle.tc_front.specs.declared.judge.Refused.{Refused}
 use Rattle.tc_front.specs.declared.judge.Refused.TheVariants as refused
 use Rattle.tc_front.specs.declared.judge.Judgement.{Judgement}
 use Rattle.tc_front.specs.declared.judge.Judgement.TheVariants as judgement
-use Rattle.tc_front.specs.Paths.{Texts, places_text, request_text, history_text, report_text, waiting_text, moves_text, procedure_text, Named, posts_to, asks_for, shows_wall, tells_opening, path_of, same}
+use Rattle.tc_front.specs.Paths.{Texts, places_text, request_text, history_text, report_text, waiting_text, urgent_text, moves_text, procedure_text, Named, posts_to, asks_for, shows_wall, tells_opening, path_of, same}
 use Rattle.tc_front.specs.Fields.{values, Held, absent, single, several, found_of, IsDecimal}
 
 -- ---- a question
@@ -41,6 +41,10 @@ abbrev pub AsksReport : List ℕ → List ℕ → Option Query → Type 0
 AsksReport first second asked =
     (n : Option ℕ) × (m : Option ℕ) × Reads decimal IsMoment first n × Reads decimal IsMoment second m × (asked ≡ both (λ n m. query.Report n m) n m)
 
+-- the page of what is urgent that begins with a line
+abbrev pub AsksUrgent : List ℕ → Option Query → Type 0
+AsksUrgent first asked = (n : Option ℕ) × Reads decimal IsNumber first n × (asked ≡ option_map (λ n. query.Urgent n) n)
+
 -- the moves behind a row
 abbrev pub AsksMoves : List ℕ → Option Query → Type 0
 AsksMoves first asked = (n : Option ℕ) × Reads decimal IsNumber first n × (asked ≡ option_map (λ n. query.Moves n) n)
@@ -56,6 +60,7 @@ AsksFor (request_text number) asked = AsksRequest number asked
 AsksFor (history_text first after) asked = AsksHistory first after asked
 AsksFor (report_text from to) asked = AsksReport from to asked
 AsksFor waiting_text asked = asked ≡ Some query.Waiting
+AsksFor (urgent_text from) asked = AsksUrgent from asked
 AsksFor (moves_text after) asked = AsksMoves after asked
 AsksFor (procedure_text name) asked = AsksProcedure name asked
 

@@ -15,6 +15,7 @@ pub data Texts : Type 0 where
   history_text : List ℕ → List ℕ → Texts
   report_text : List ℕ → List ℕ → Texts
   waiting_text : Texts
+  urgent_text : List ℕ → Texts
   moves_text : List ℕ → Texts
   procedure_text : List ℕ → Texts
 
@@ -32,6 +33,7 @@ texts_of (question.Request number) = request_text number.now
 texts_of (question.History request after) = history_text request.now after.now
 texts_of (question.Report from to) = report_text from.now to.now
 texts_of question.Waiting = waiting_text
+texts_of (question.Urgent from) = urgent_text from.now
 texts_of (question.Moves after) = moves_text after.now
 texts_of (question.Procedure name) = procedure_text name.now
 
@@ -80,6 +82,10 @@ history first after = asks_for (history_text first after)
 abbrev pub report : List ℕ → List ℕ → Named
 report from to = asks_for (report_text from to)
 
+-- /urgent/FROM
+abbrev pub urgent : List ℕ → Named
+urgent from = asks_for (urgent_text from)
+
 -- /moves/AFTER
 abbrev pub moves : List ℕ → Named
 moves after = asks_for (moves_text after)
@@ -105,9 +111,10 @@ named_path (name ∷ texts) =
     else (if same name (codes "history") then two_texts history texts
     else (if same name (codes "report") then two_texts report texts
     else (if same name (codes "waiting") then ends_here (asks_for waiting_text) texts
+    else (if same name (codes "urgent") then one_text urgent texts
     else (if same name (codes "moves") then one_text moves texts
     else (if same name (codes "board") then ends_here shows_wall texts
-    else (if same name (codes "opening") then ends_here tells_opening texts else None))))))))))
+    else (if same name (codes "opening") then ends_here tells_opening texts else None)))))))))))
 
 -- nothing stands before the first slash
 abbrev pub behind_slash : List (List ℕ) → Option Named

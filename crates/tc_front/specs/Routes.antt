@@ -8,7 +8,7 @@ use Rattle.matchit.specs.declared.InsertError.{InsertError}
 use Rattle.tc_front.specs.declared.routes.RouteKind.{RouteKind}
 use Rattle.tc_front.specs.declared.routes.RouteKind.TheVariants as kind
 use Rattle.tc_front.specs.declared.paths.Post.TheVariants as post
-use Rattle.tc_front.specs.Paths.{Named, posts_to, asks_for, shows_wall, tells_opening, places_text, waiting_text, request, history, report, moves, procedure}
+use Rattle.tc_front.specs.Paths.{Named, posts_to, asks_for, shows_wall, tells_opening, places_text, waiting_text, request, history, report, urgent, moves, procedure}
 
 abbrev pub KindRoutes : Type 0
 KindRoutes = RowsOf (RouteOf RouteKind)
@@ -29,6 +29,7 @@ desk_routes =
     (with_route (codes "/board") kind.Wall
     (with_route (codes "/procedures/{name}") kind.Procedure
     (with_route (codes "/moves/{after}") kind.Moves
+    (with_route (codes "/urgent/{from}") kind.Urgent
     (with_route (codes "/waiting") kind.Waiting
     (with_route (codes "/report/{from}/{to}") kind.Report
     (with_route (codes "/history/{request}/{after}") kind.History
@@ -36,7 +37,7 @@ desk_routes =
     (with_route (codes "/places") kind.Places
     (with_route (codes "/procedures") kind.Procedures
     (with_route (codes "/stacks") kind.Stacks
-    (with_route (codes "/acts") kind.Acts [])))))))))))
+    (with_route (codes "/acts") kind.Acts []))))))))))))
 
 -- the route reads well, and no route of the rows stands against it
 abbrev pub IsFree : Result Scan InsertError → KindRoutes → Type 0
@@ -53,6 +54,7 @@ named_at kind.Request first second = request first
 named_at kind.History first second = history first second
 named_at kind.Report first second = report first second
 named_at kind.Waiting first second = asks_for waiting_text
+named_at kind.Urgent first second = urgent first
 named_at kind.Moves first second = moves first
 named_at kind.Procedure first second = procedure first
 named_at kind.Wall first second = shows_wall

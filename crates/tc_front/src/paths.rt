@@ -24,6 +24,8 @@ pub enum Question<'a> {
     Report { from: &'a [u8], to: &'a [u8] },
     /// `/waiting`
     Waiting,
+    /// `/urgent/FROM`
+    Urgent { from: &'a [u8] },
     /// `/moves/AFTER`
     Moves { after: &'a [u8] },
     /// `/procedures/NAME`

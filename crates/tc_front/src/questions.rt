@@ -1,5 +1,5 @@
 //! The question that a path asks, by the numbers in it.
-ghost use Rattle.tc_front.specs.Judge.{AsksFor, AsksHistory, AsksMoves, AsksProcedure, AsksReport, AsksRequest};
+ghost use Rattle.tc_front.specs.Judge.{AsksFor, AsksHistory, AsksMoves, AsksProcedure, AsksReport, AsksRequest, AsksUrgent};
 ghost use Rattle.tc_front.specs.Paths.{texts_of};
 
 use crate::paths::Question;
@@ -16,6 +16,7 @@ pub(crate) fn query_of(question: Question<'_>) -> Option<Query>
         Question::History { request, after } => history_query(request, after),
         Question::Report { from, to } => report_query(from, to),
         Question::Waiting => Some(Query::Waiting),
+        Question::Urgent { from } => urgent_query(from),
         Question::Moves { after } => moves_query(after),
         Question::Procedure { name } => procedure_query(name),
     }
@@ -51,6 +52,14 @@ fn report_query(first: &[u8], second: &[u8]) -> Option<Query>
         from: from?,
         to: to?,
     })
+}
+
+/// The page of what is urgent that begins with line `word`.
+fn urgent_query(word: &[u8]) -> Option<Query>
+    ensures { AsksUrgent word.now result }
+{
+    let from = number(word)?;
+    Some(Query::Urgent { from })
 }
 
 /// The moves behind row `word`.

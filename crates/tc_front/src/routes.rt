@@ -23,6 +23,7 @@ pub(crate) enum RouteKind {
     History,
     Report,
     Waiting,
+    Urgent,
     Moves,
     Procedure,
     Wall,
@@ -48,6 +49,7 @@ fn path_at<'a>(kind: RouteKind, first: &'a [u8], second: &'a [u8]) -> Path<'a>
             to: second,
         }),
         RouteKind::Waiting => Path::Asks(Question::Waiting),
+        RouteKind::Urgent => Path::Asks(Question::Urgent { from: first }),
         RouteKind::Moves => Path::Asks(Question::Moves { after: first }),
         RouteKind::Procedure => Path::Asks(Question::Procedure { name: first }),
         RouteKind::Wall => Path::Wall,
@@ -116,6 +118,7 @@ impl Routes {
         )?;
         add(&mut router, "/report/{from}/{to}", RouteKind::Report)?;
         add(&mut router, "/waiting", RouteKind::Waiting)?;
+        add(&mut router, "/urgent/{from}", RouteKind::Urgent)?;
         add(&mut router, "/moves/{after}", RouteKind::Moves)?;
         add(&mut router, "/procedures/{name}", RouteKind::Procedure)?;
         add(&mut router, "/board", RouteKind::Wall)?;

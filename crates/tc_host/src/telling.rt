@@ -178,6 +178,7 @@ fn is_question(verb: Verb) -> bool {
             | Verb::Log
             | Verb::Report
             | Verb::Waiting
+            | Verb::Urgent
             | Verb::Moves
             | Verb::Standing
             | Verb::Steps

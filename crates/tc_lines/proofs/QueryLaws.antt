@@ -31,6 +31,7 @@ asks_first query.Schedule = refl
 asks_first (query.Log execution) = refl
 asks_first (query.Report from to) = refl
 asks_first query.Waiting = refl
+asks_first (query.Urgent from) = refl
 asks_first (query.Moves after) = refl
 asks_first (query.Standing place after) = refl
 asks_first (query.Steps procedure) = refl

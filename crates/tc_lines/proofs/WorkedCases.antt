@@ -77,8 +77,8 @@ unfolding digits
 log-spelled = refl
 
 -- the questions of who looks before he reads
-pub looks-spelled : map act_text (act.Ask query.Waiting ∷ act.Ask (query.Moves 0) ∷ act.Ask (query.Standing Confirmed 4294967295) ∷ act.Ask (query.Steps (codes "p1")) ∷ [])
-    ≡ codes "waiting" ∷ codes "moves 0" ∷ codes "standing Confirmed 4294967295" ∷ codes "steps p1" ∷ []
+pub looks-spelled : map act_text (act.Ask query.Waiting ∷ act.Ask (query.Urgent 51) ∷ act.Ask (query.Moves 0) ∷ act.Ask (query.Standing Confirmed 4294967295) ∷ act.Ask (query.Steps (codes "p1")) ∷ [])
+    ≡ codes "waiting" ∷ codes "urgent 51" ∷ codes "moves 0" ∷ codes "standing Confirmed 4294967295" ∷ codes "steps p1" ∷ []
 unfolding digits
 looks-spelled = refl
 

@@ -115,6 +115,7 @@ of_question book query.Schedule = refl
 of_question book (query.Log execution) = refl
 of_question book (query.Report from to) = refl
 of_question book query.Waiting = refl
+of_question book (query.Urgent from) = refl
 of_question book (query.Moves after) = refl
 of_question book (query.Standing place after) = refl
 of_question book (query.Steps procedure) = refl

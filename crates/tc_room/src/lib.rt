@@ -11,6 +11,7 @@ mod loadings;
 mod opening;
 mod replies;
 mod rooms;
+mod urgents;
 mod waited;
 mod writes;
 

@@ -93,6 +93,7 @@ Fits slot.Verb word = IsTrue (is_some (verb_in word))
 Fits slot.Request word = Spells decimal IsNumber word
 Fits slot.HistoryOf word = Spells decimal IsNumber word
 Fits slot.After word = Spells decimal IsNumber word
+Fits slot.FromLine word = Spells decimal IsNumber word
 Fits slot.StandingAt word = Spells place_name (λ place. ⊤) word
 Fits slot.Past word = Spells decimal IsNumber word
 Fits slot.Execution word = Spells decimal IsNumber word

@@ -51,6 +51,7 @@ abbrev pub number_text : Slot → List ℕ
 number_text slot.Request = codes "the number of a request in plain digits"
 number_text slot.HistoryOf = codes "the number of a request in plain digits"
 number_text slot.After = codes "the number of a move, or 0, in plain digits"
+number_text slot.FromLine = codes "the number of a line in plain digits"
 number_text slot.Past = codes "the number of a request, or 0, in plain digits"
 number_text slot.Execution = codes "the number of an execution in plain digits"
 number_text slot.StepOf = codes "the number of an execution in plain digits"

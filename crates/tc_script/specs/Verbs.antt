@@ -39,6 +39,7 @@ first_slot verb.Schedule = None
 first_slot verb.Log = Some slot.Execution
 first_slot verb.Report = Some slot.From
 first_slot verb.Waiting = None
+first_slot verb.Urgent = Some slot.FromLine
 first_slot verb.Moves = Some slot.After
 first_slot verb.Standing = Some slot.StandingAt
 first_slot verb.Steps = Some slot.Name

@@ -44,6 +44,7 @@ pub(crate) fn fits(slot: Slot, word: &[u8]) -> bool
         Slot::Request
         | Slot::HistoryOf
         | Slot::After
+        | Slot::FromLine
         | Slot::Past
         | Slot::Execution
         | Slot::StepOf

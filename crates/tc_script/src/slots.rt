@@ -16,6 +16,8 @@ pub enum Slot {
     HistoryOf,
     /// The number of the move behind which they begin.
     After,
+    /// The number of the line with which a page begins.
+    FromLine,
     /// The place whose requests are asked for.
     StandingAt,
     /// The number of the request behind which they begin.

@@ -81,6 +81,7 @@ fn number_text(slot: Slot) -> &'static str
     match slot {
         Slot::Request | Slot::HistoryOf => "the number of a request in plain digits",
         Slot::After => "the number of a move, or 0, in plain digits",
+        Slot::FromLine => "the number of a line in plain digits",
         Slot::Past => "the number of a request, or 0, in plain digits",
         Slot::Execution | Slot::StepOf => "the number of an execution in plain digits",
         Slot::Step => "the number of a step in plain digits",

@@ -28,6 +28,7 @@ pub(crate) fn first_slot(verb: Verb) -> Option<Slot>
         Verb::LoseUp | Verb::LoseDown => Some(Slot::Item),
         Verb::Clock => Some(Slot::Time),
         Verb::History => Some(Slot::HistoryOf),
+        Verb::Urgent => Some(Slot::FromLine),
         Verb::Moves => Some(Slot::After),
         Verb::Standing => Some(Slot::StandingAt),
         Verb::Log => Some(Slot::Execution),

@@ -31,13 +31,14 @@ query_words query.Schedule = verb_word verb.Schedule ∷ []
 query_words (query.Log execution) = verb_word verb.Log ∷ decimal execution ∷ []
 query_words (query.Report from to) = verb_word verb.Report ∷ decimal from ∷ decimal to ∷ []
 query_words query.Waiting = verb_word verb.Waiting ∷ []
+query_words (query.Urgent from) = verb_word verb.Urgent ∷ decimal from ∷ []
 query_words (query.Moves after) = verb_word verb.Moves ∷ decimal after ∷ []
 query_words (query.Standing place after) = verb_word verb.Standing ∷ place_name place ∷ decimal after ∷ []
 query_words (query.Steps procedure) = verb_word verb.Steps ∷ procedure ∷ []
 
 -- the verbs of questions
 abbrev pub question_verbs : List Verb
-question_verbs = verb.Places ∷ verb.History ∷ verb.Request ∷ verb.Link ∷ verb.Schedule ∷ verb.Log ∷ verb.Report ∷ verb.Waiting ∷ verb.Moves ∷ verb.Standing ∷ verb.Steps ∷ []
+question_verbs = verb.Places ∷ verb.History ∷ verb.Request ∷ verb.Link ∷ verb.Schedule ∷ verb.Log ∷ verb.Report ∷ verb.Waiting ∷ verb.Urgent ∷ verb.Moves ∷ verb.Standing ∷ verb.Steps ∷ []
 
 -- a word is the verb of a question
 unfoldable pub asks : List ℕ → Bool
@@ -52,6 +53,7 @@ IsQuery query.Schedule = Unit {0}
 IsQuery (query.Log execution) = IsNumber execution
 IsQuery (query.Report from to) = IsMoment from × IsMoment to
 IsQuery query.Waiting = Unit {0}
+IsQuery (query.Urgent from) = IsNumber from
 IsQuery (query.Moves after) = IsNumber after
 IsQuery (query.Standing place after) = IsNumber after
 IsQuery (query.Steps procedure) = IsName procedure

@@ -26,6 +26,8 @@ pub enum Query {
     Report { from: Moment, to: Moment },
     /// What waits for a person.
     Waiting,
+    /// What is open, most urgent first: the page that begins with line `from`, counted from 1.
+    Urgent { from: u32 },
     /// The rows of the whole history with a greater `seq` than `after`.
     Moves { after: u32 },
     /// The requests with a greater number than `after` that stand at `place`.

@@ -59,6 +59,8 @@ pub enum Verb {
     Report,
     /// What waits for a person.
     Waiting,
+    /// What is open, most urgent first.
+    Urgent,
     /// The moves of all requests.
     Moves,
     /// The requests at a place.
@@ -72,7 +74,7 @@ pub enum Verb {
 }
 
 /// All of them.
-pub const VERBS: [Verb; 32] = [
+pub const VERBS: [Verb; 33] = [
     Verb::Enter,
     Verb::Withdraw,
     Verb::Approve,
@@ -100,6 +102,7 @@ pub const VERBS: [Verb; 32] = [
     Verb::Log,
     Verb::Report,
     Verb::Waiting,
+    Verb::Urgent,
     Verb::Moves,
     Verb::Standing,
     Verb::Steps,
@@ -140,6 +143,7 @@ impl Verb {
             Verb::Log => "log",
             Verb::Report => "report",
             Verb::Waiting => "waiting",
+            Verb::Urgent => "urgent",
             Verb::Moves => "moves",
             Verb::Standing => "standing",
             Verb::Steps => "steps",

@@ -4,3 +4,4 @@ pub mod Lines
 pub mod Folds
 pub mod Laws
 pub mod Texts
+pub mod Pages

@@ -50,7 +50,7 @@ fn is_scheduled(scheduled: &[u32], n: u32) -> bool
 pub(crate) fn kind_of<A: Allocator + Copy + Drop>(
     book: &Records<A>,
     inserts: &[Request],
-    opened: u32,
+    opened: usize,
     scheduled: &[u32],
     moved: u32,
     request: &Request,
@@ -75,7 +75,7 @@ pub(crate) fn kind_of<A: Allocator + Copy + Drop>(
         }
         Place::Doubtful => Some(UrgentKind::InDoubt),
         Place::Failed => {
-            if opened < moved {
+            if opened < moved as usize {
                 Some(UrgentKind::FailedSince)
             } else {
                 None

@@ -2,6 +2,7 @@
 ghost use Rattle.std.specs.Prelude.{◌≡◌, ◌-◌, ◌==◌, count_by, drop, take};
 ghost use Rattle.tc_urgent.specs.Kinds.{urgency as urgency_of};
 ghost use Rattle.tc_urgent.specs.Lines.{page_of};
+ghost use Rattle.tc_urgent.specs.Pages.{has_more as has_more_behind};
 
 use crate::lines::UrgentLine;
 
@@ -28,6 +29,13 @@ pub fn page(lines: &[UrgentLine], from: usize) -> &[UrgentLine]
     ensures { result.now ≡ page_of from lines.now }
 {
     first_of(lines_from(lines, from), PAGE)
+}
+
+/// Returns whether lines come behind the page that begins with line `from`.
+pub fn has_more(lines: &[UrgentLine], from: usize) -> bool
+    ensures { result ≡ has_more_behind from lines.now }
+{
+    lines_from(lines, from).len() > PAGE
 }
 
 /// Counts the lines of this rank, as of those that a page leaves out.

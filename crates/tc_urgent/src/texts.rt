@@ -1,7 +1,8 @@
 //! How a line is printed, without its LF.
-ghost use Rattle.std.specs.Prelude.{◌≡◌, IfOk, IsTrue, Some};
+ghost use Rattle.std.specs.Prelude.{◌≡◌, ◌++◌, [], codes, if◌then◌else◌, IfOk, IsTrue, Some};
 ghost use Rattle.std.specs.String.{string_bytes};
 ghost use Rattle.tc_types.specs.Words.{is_one_line};
+ghost use Rattle.tc_urgent.specs.Pages.{head_line};
 ghost use Rattle.tc_urgent.specs.Texts.{kind_name, kind_phrase, subject_phrase, urgent_text};
 
 use crate::kinds::UrgentKind;
@@ -91,4 +92,28 @@ pub fn urgent_text<A: Allocator + Copy>(
     let waited = line.waited;
     let same = line.same;
     format!(in alloc; "{subject} {kind} since {since} waited {waited} same {same}")
+}
+
+/// Adds ` more` to a line if others come later.
+fn with_more<A: Allocator + Copy>(mut line: String<A>, more: bool) -> Result<String<A>, AllocError>
+    ensures { IfOk result (λ t. string_bytes t ≡ string_bytes line ++ (if more then codes " more" else [])) }
+{
+    if more {
+        line.push_str(" more")?;
+    }
+    Ok(line)
+}
+
+/// The first line of a page: `urgent K`, and ` more` if others come later. Fails if memory is
+/// refused.
+#[tactic(auto, using(crate::proofs::OneLine::head_one))]
+pub fn head_text<A: Allocator + Copy>(
+    alloc: A,
+    shown: usize,
+    more: bool,
+) -> Result<String<A>, AllocError>
+    ensures text { IfOk result (λ t. string_bytes t ≡ head_line shown more) }
+    ensures one_line { IfOk result (λ t. IsTrue (is_one_line (head_line shown more))) }
+{
+    with_more(format!(in alloc; "urgent {shown}")?, more)
 }

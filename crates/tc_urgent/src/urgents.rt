@@ -9,7 +9,9 @@ ghost use Rattle.tc_urgent.specs.Kinds.{urgency};
 ghost use Rattle.tc_urgent.specs.Judging.{AreLastMoves, latest as latest_of, open_inserts};
 ghost use Rattle.tc_urgent.specs.Laws.{AreByUrgency};
 ghost use Rattle.tc_urgent.specs.Lines.{execution_line, lines_of, request_line, request_lines};
+ghost use Rattle.tc_urgent.specs.Pages.{AreUrgent};
 
+use crate::folds::folded;
 use crate::inserts::{add_one, open_inserts};
 use crate::judging::kind_of;
 use crate::kinds::UrgentKind;
@@ -24,7 +26,7 @@ use tc_types::{MOST_REQUESTS, Request};
 /// desk's last move.
 #[derive(Clone, Copy)]
 struct Given<'a> {
-    opened: u32,
+    opened: usize,
     scheduled: &'a [u32],
     inserts: &'a [Request],
     last: &'a [LastMove],
@@ -108,7 +110,7 @@ fn add_executions<A: Allocator + Copy + Drop>(
 fn lines_of<A: Allocator + Copy + Drop>(
     alloc: A,
     book: &Records<A>,
-    opened: u32,
+    opened: usize,
     scheduled: &[u32],
 ) -> Result<Vec<UrgentLine, A>, AllocError>
     ensures { IfOk result (λ lines. lines.items ≡ lines_of book.now.book opened scheduled.now) }
@@ -142,7 +144,7 @@ fn rank(line: &UrgentLine) -> (u8, u32)
 pub fn urgent<A: Allocator + Copy + Drop>(
     alloc: A,
     book: &Records<A>,
-    opened: u32,
+    opened: usize,
     scheduled: &[u32],
 ) -> Result<Vec<UrgentLine, A>, AllocError>
     // each line once
@@ -152,4 +154,18 @@ pub fn urgent<A: Allocator + Copy + Drop>(
     let mut lines = lines_of(alloc, book, opened, scheduled)?;
     lines.sort_by_key(|line| rank(line))?;
     Ok(lines)
+}
+
+/// Returns all lines of a book, most urgent first, with those that are folded as one line. Fails if
+/// memory is refused.
+pub fn urgent_folded<A: Allocator + Copy + Drop>(
+    alloc: A,
+    book: &Records<A>,
+    opened: usize,
+    scheduled: &[u32],
+) -> Result<Vec<UrgentLine, A>, AllocError>
+    ensures { IfOk result (λ shown. AreUrgent book.now.book opened scheduled.now shown.items) }
+{
+    let lines = urgent(alloc, book, opened, scheduled)?;
+    folded(alloc, &lines)
 }

@@ -2,7 +2,7 @@
 
 // The acts and questions of the desk by their first words. README.md has them as a table, and docs/OPERATORS.md says what each does.
 const VERBS = {
-    look: ['places', 'history', 'request', 'link', 'schedule', 'log', 'report', 'waiting', 'moves', 'standing', 'steps'],
+    look: ['places', 'history', 'request', 'link', 'schedule', 'log', 'report', 'waiting', 'urgent', 'moves', 'standing', 'steps'],
     enter: ['enter', 'withdraw', 'stack', 'procedure'],
     approve: ['approve', 'approvestack'],
     release: ['release', 'begin', 'step', 'close', 'initiate', 'terminate', 'set', 'tick', 'up', 'clcw', 'down', 'work', 'clock', 'loseup', 'losedown']

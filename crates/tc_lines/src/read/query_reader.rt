@@ -80,6 +80,15 @@ fn waiting(words: &mut Words<'_>) -> Option<Query>
     Some(Query::Waiting)
 }
 
+/// What stands behind `urgent`.
+fn urgent(words: &mut Words<'_>) -> Option<Query>
+    ensures { Reads query_words IsQuery (verb_word verb.Urgent ∷ words.old) result }
+{
+    let from = number(words.next()?)?;
+    words.end()?;
+    Some(Query::Urgent { from })
+}
+
 /// What stands behind `moves`.
 fn moves(words: &mut Words<'_>) -> Option<Query>
     ensures { Reads query_words IsQuery (verb_word verb.Moves ∷ words.old) result }
@@ -119,7 +128,7 @@ fn steps(words: &mut Words<'_>) -> Option<Query>
 }
 
 /// The verbs of questions.
-const QUESTIONS: [Verb; 11] = [
+const QUESTIONS: [Verb; 12] = [
     Verb::Places,
     Verb::History,
     Verb::Request,
@@ -128,6 +137,7 @@ const QUESTIONS: [Verb; 11] = [
     Verb::Log,
     Verb::Report,
     Verb::Waiting,
+    Verb::Urgent,
     Verb::Moves,
     Verb::Standing,
     Verb::Steps,
@@ -160,6 +170,8 @@ pub(crate) fn query_of(verb: &[u8], words: &mut Words<'_>) -> Option<Query>
         report(words)
     } else if Verb::Waiting.is(verb) {
         waiting(words)
+    } else if Verb::Urgent.is(verb) {
+        urgent(words)
     } else if Verb::Moves.is(verb) {
         moves(words)
     } else if Verb::Standing.is(verb) {

@@ -51,7 +51,11 @@ pub add-requires-12 : goal.add-requires-12
 unfolding matchit_on_literals with_route
 add-requires-12 c = rw (c.in_ok-add-11.ensures, c.in_ok-add-10.ensures, c.in_ok-add-9.ensures, c.in_ok-add-8.ensures, c.in_ok-add-7.ensures, c.in_ok-add-6.ensures, c.in_ok-add-5.ensures, c.in_ok-add-4.ensures, c.in_ok-add-3.ensures, c.in_ok-add-2.ensures, c.in_ok-add.ensures, c.new-router.ensures) refl
 
+pub add-requires-13 : goal.add-requires-13
+unfolding matchit_on_literals with_route
+add-requires-13 c = rw (c.in_ok-add-12.ensures, c.in_ok-add-11.ensures, c.in_ok-add-10.ensures, c.in_ok-add-9.ensures, c.in_ok-add-8.ensures, c.in_ok-add-7.ensures, c.in_ok-add-6.ensures, c.in_ok-add-5.ensures, c.in_ok-add-4.ensures, c.in_ok-add-3.ensures, c.in_ok-add-2.ensures, c.in_ok-add.ensures, c.new-router.ensures) refl
+
 pub invariant_of-result : goal.invariant_of-result
 unfolding desk_routes
 invariant_of-result c =
-    rw c.in_ok-add-12.ensures (rw c.in_ok-add-11.ensures (rw c.in_ok-add-10.ensures (rw c.in_ok-add-9.ensures (rw c.in_ok-add-8.ensures (rw c.in_ok-add-7.ensures (rw c.in_ok-add-6.ensures (rw c.in_ok-add-5.ensures (rw c.in_ok-add-4.ensures (rw c.in_ok-add-3.ensures (rw c.in_ok-add-2.ensures (rw c.in_ok-add.ensures (rw c.new-router.ensures refl))))))))))))
+    rw c.in_ok-add-13.ensures (rw c.in_ok-add-12.ensures (rw c.in_ok-add-11.ensures (rw c.in_ok-add-10.ensures (rw c.in_ok-add-9.ensures (rw c.in_ok-add-8.ensures (rw c.in_ok-add-7.ensures (rw c.in_ok-add-6.ensures (rw c.in_ok-add-5.ensures (rw c.in_ok-add-4.ensures (rw c.in_ok-add-3.ensures (rw c.in_ok-add-2.ensures (rw c.in_ok-add.ensures (rw c.new-router.ensures refl)))))))))))))
