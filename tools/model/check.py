@@ -37,6 +37,7 @@ class Kind(NamedTuple):
 # ---- what a field may be: each rule gives what reads the field of a row, and why the row is wrong where it does not
 
 empty = one_of("")
+NO_INSTANTS = "not instants of whole seconds from 1970 to 2099 with an offset, such as 2031-05-04T10:00:00Z, parted by ;"
 
 
 def maybe(read: Reader) -> Reader:
@@ -88,7 +89,8 @@ def instants(count: int) -> Reader:
 def time(row: TextRow) -> tuple[Reader, str]:
     """As many instants as an insert names lines, an offset, or nothing."""
     if commands(row, Subtype.INSERT):
-        return instants(len(str(row["target"]).split(";"))), "not as many instants as targets, parted by ;"
+        wanted = str(row["target"]).count(";")
+        return instants(wanted + 1), NO_INSTANTS if str(row["time"]).count(";") == wanted else "not as many instants as targets, parted by ;"
     return (offset, f"not seconds, -{LAST_MOMENT} to {LAST_MOMENT}") if commands(row, *TAKES_OFFSET) else (empty, "not empty")
 
 
@@ -127,7 +129,8 @@ KINDS = {"stack": STACK, "procedure": PROCEDURE}
 
 # ---- what was found
 
-MOST_LINES, MOST_SHOWN = 20, 40
+MOST_LINES, MOST_SHOWN = 20, 256
+OPEN_QUOTE = ", and a quote stays open to the end of the file"
 # The front of a workbook, which is an archive, and those of a text of another encoding.
 WORKBOOK, UTF_16 = b"PK\3\4", (b"\xff\xfe", b"\xfe\xff")
 OTHER_FILES = ("the file is UTF-16, and not UTF-8", "the file is a workbook, and no text")
@@ -193,6 +196,15 @@ class Sheet(NamedTuple):
         line = self.lines[row]
         return f"{self.kind.row} {row}" + f" (line {line} of the file)" * (line != row + 1)
 
+    def open_quote(self, row: int) -> str:
+        """What is told of a quote that stays open, behind a fault of this row: nothing where none does, or where it is no quote of the row."""
+        return OPEN_QUOTE * (row == len(self.records) - 1 and ends_quoted(self.data))
+
+
+def ends_quoted(data: bytes) -> bool:
+    """Whether a quote of a text stays open to its end: fields that end, and then one that begins with a quote and does not."""
+    return re.fullmatch(r'(?:(?:"(?:[^"]|"")*+"[^,\r\n]*|[^",\r\n][^,\r\n]*)?[,\r\n])*+"(?:[^"]|"")*+', unmarked(data).decode("latin-1")) is not None
+
 
 def sheet_of(kind: Kind, data: bytes) -> Sheet:
     """A text, read."""
@@ -201,20 +213,20 @@ def sheet_of(kind: Kind, data: bytes) -> Sheet:
     return Sheet(kind, data, [record for _, record in placed], [text.count("\n", 0, begin) + 1 for begin, _ in placed])
 
 
-def too_much(sheet: Sheet, what: str) -> Told:
+def too_much(sheet: Sheet, row: int, what: str) -> Told:
     """What is told of a text that is too long: where it is no text, that too."""
-    return Told([": ".join(filter(None, (what, other_file(sheet.data))))], False, Refusal.TOO_LONG)
+    return Told([": ".join(filter(None, (what, other_file(sheet.data)))) + sheet.open_quote(row)], False, Refusal.TOO_LONG)
 
 
 def why_no_table(sheet: Sheet) -> Optional[Told]:
     """What is wrong with a text as a whole, and with what it is refused; nothing where it is a table."""
     kind, records = sheet.kind, sheet.records
     if len(sheet.data) > LONGEST_TEXT:
-        return too_much(sheet, f"file: more than {LONGEST_TEXT} bytes")
+        return too_much(sheet, 0, f"file: more than {LONGEST_TEXT} bytes")
     if len(records) - 1 > kind.most:
-        return too_much(sheet, f"{sheet.place(kind.most + 1)}: more than {kind.most} {kind.rows}")
+        return too_much(sheet, kind.most + 1, f"{sheet.place(kind.most + 1)}: more than {kind.most} {kind.rows}")
     if records[:1] != [kind.header]:
-        return Told([f"header: not {','.join(kind.header)}: {no_header(kind, sheet.data, records)}"], False, Refusal.BAD_TEXT)
+        return Told([f"header: not {','.join(kind.header)}: {no_header(kind, sheet.data, records)}{sheet.open_quote(0)}"], False, Refusal.BAD_TEXT)
     return Told([f"{kind.row} 1: missing: nothing but a header"], False, Refusal.BAD_TEXT) if len(records) == 1 else None
 
 
@@ -253,10 +265,10 @@ def note_of(kind: Kind, fields: Sequence[str]) -> str:
     return f", field time: second 60 is read as 59: {quoted(fields[5])}" if any(map(writes_60, fields[5].split(";"))) else ""
 
 
-def placed(sheet: Sheet, told: Callable[[int, list[str]], str]) -> list[str]:
-    """What is told of each row, behind its place."""
+def placed(sheet: Sheet, told: Callable[[int, list[str]], str], behind: Callable[[Sheet, int], str] = lambda _sheet, _row: "") -> list[str]:
+    """What is told of each row, behind its place, and what stands behind that."""
     found = ((at, told(at, fields)) for at, fields in enumerate(sheet.records[1:], 1))
-    return [sheet.place(at) + why for at, why in found if why]
+    return [sheet.place(at) + why + behind(sheet, at) for at, why in found if why]
 
 
 def told_of(name: str, data: bytes) -> Told:
@@ -266,10 +278,10 @@ def told_of(name: str, data: bytes) -> Told:
     whole = why_no_table(sheet)
     if whole:
         return whole
-    broken = placed(sheet, lambda at, fields: why_no_row(kind, at, fields))
+    broken = placed(sheet, lambda at, fields: why_no_row(kind, at, fields), Sheet.open_quote)
     if broken:
         return Told(limited(broken), False, Refusal.BAD_TEXT)
-    barred = placed(sheet, lambda at, fields: why_barred(sheet.records[1:], fields)) if kind is STACK else []
+    barred = placed(sheet, lambda at, fields: why_barred(sheet.records[1:], fields), Sheet.open_quote) if kind is STACK else []
     if barred:
         return Told(limited(barred), False, Refusal.BAD_ACTIVITY)
     notes = placed(sheet, lambda at, fields: note_of(kind, fields))

@@ -1,7 +1,7 @@
 """What `tcdesk check script` has to tell of a script by itself: a reading of its grammar, word by word, which asks the program nothing. What a word has to be hangs on the
 words before it. Words are read as lines.py reads them, which judges whole lines and tells no fault.
 """
-from typing import Callable, Mapping, NamedTuple, Optional, Union
+from typing import Callable, Mapping, NamedTuple, Optional, Sequence, Union
 
 from model.check import KINDS, Told, limited, quoted, told_of
 from model.facts import (
@@ -133,6 +133,9 @@ VERBS: dict[str, Optional[Slot]] = {
 LINE = one_moment(Slot(person, "a person, 1 to 16 of a-z and 0-9 and not desk", Slot(one_of(*VERBS), "an act, a question or a load", VERBS.get)))
 
 
+QUESTIONS = ("places", "history", "request", "link", "schedule", "log", "report", "waiting", "moves", "standing", "steps")
+
+
 # ---- what is told
 
 def why_word(at: Slot, word: str) -> str:
@@ -144,6 +147,12 @@ def why_word(at: Slot, word: str) -> str:
     if at is not PATH and any(not "!" <= it <= "~" for it in word):
         return f"a byte that is no printable character of ASCII: {quoted(word)}"
     return f"not {at.wanted}: {quoted(word)}"
+
+
+def why_refused(words: Sequence[str]) -> str:
+    """Why each desk refuses a line that is one: an insert names a request twice. Nothing of another line."""
+    named = words[8].split(";") if words[2] == "enter" else []
+    return f", word 9: a request that is named twice: {quoted(words[8])}" if len(set(named)) < len(named) else ""
 
 
 def fault_of(line: str) -> str:
@@ -162,6 +171,11 @@ def fault_of(line: str) -> str:
     return f", word {len(words) + 1}: missing, {at.wanted}" if at else ""
 
 
+def wrong_with(line: str) -> str:
+    """What is told of a line, behind its number: that it is none, or that each desk refuses it; nothing of another."""
+    return fault_of(line) or why_refused(line.split(" "))
+
+
 def why_unloaded(line: str, files: Mapping[str, bytes]) -> str:
     """What is wrong with the file that a line loads, behind its number; nothing where it loads none, or one that can be loaded."""
     _, _, kind, *rest = line.split(" ")
@@ -174,14 +188,27 @@ def why_unloaded(line: str, files: Mapping[str, bytes]) -> str:
     return "" if told.is_ok else f", word 5: {at}: {told.lines[0]}"
 
 
+def back_lines(lines: Sequence[str]) -> list[str]:
+    """What is told of lines that a run works and that are no questions, of which each lies before one above it."""
+    found, latest = [], -1
+    for at, line in enumerate(lines, 1):
+        if not is_answered(line) or line.split(" ")[2] in QUESTIONS:
+            continue
+        moment = int(line.split(" ")[0])
+        if moment < latest:
+            found.append(f"line {at}: at {moment}, before a line at {latest}")
+        latest = max(latest, moment)
+    return found
+
+
 def script_told(data: bytes, files: Optional[Mapping[str, bytes]] = None) -> Told:
     """What is told of the bytes of a script; with the files that there are, what is told of those that it loads too."""
     *lines, last = data.decode("latin-1").split("\n")
     found = []
     for at, line in enumerate([it.removesuffix("\r") for it in lines] + [last], 1):
-        why = fault_of(line) if is_answered(line) else ""
+        why = wrong_with(line) if is_answered(line) else ""
         if is_answered(line) and not why and files is not None:
             why = why_unloaded(line, files)
         if why:
             found.append(f"line {at}{why}")
-    return Told(limited(found) or ["ok"], not found, 0)
+    return Told(limited(found) or ["ok", *limited(back_lines([it.removesuffix("\r") for it in lines] + [last]))], not found, 0)

@@ -27,7 +27,7 @@ from typing import NamedTuple, Union
 
 from generate.check_random import random_text
 from generate.check_texts import NO_STACK, ROW, STACK, Text, all_texts, bytes_of, listed
-from model.check import Told, told_of
+from model.check import OPEN_QUOTE, Told, told_of
 from model.desk import Desk
 from model.facts import Refusal
 from model.lines import is_answered, read_line
@@ -56,6 +56,7 @@ stack line N, field target: not 1 to 8 earlier lines, parted by ;
 stack line N, field target: not an earlier line
 stack line N, field target: not empty
 stack line N, field time: not as many instants as targets, parted by ;
+stack line N, field time: not instants of whole seconds from 1970 to 2099 with an offset, such as 2031-05-04T10:00:00Z, parted by ;
 stack line N, field time: not seconds, -4102444799 to 4102444799
 stack line N, field time: not empty
 stack line N, field ack: not aspc, with - for each report that is not wanted
@@ -123,8 +124,8 @@ def check_by(program: str, folder: str, text: Text, told: Told, path: str, given
 
 
 def front_of(line: str) -> str:
-    """A line without the line of the file."""
-    return re.sub(r" \(line [0-9]+ of the file\)", "", line)
+    """A line without the line of the file, and without what is told of a quote that stays open."""
+    return re.sub(r" \(line [0-9]+ of the file\)", "", line).removesuffix(OPEN_QUOTE)
 
 
 def written_by(text: Text, told: Told) -> list[str]:
@@ -220,6 +221,7 @@ CASES: list[tuple[str, int, Union[bytes, re.Pattern[bytes]], Union[bytes, re.Pat
     ('"$0" check stack bad.csv', 1, b'line 2, field apid: not 0 to 2047 in plain digits: "x"\n', b""),
     ('"$0" check stack - <bad.csv', 1, b'line 2, field apid: not 0 to 2047 in plain digits: "x"\n', b""),
     ('"$0" check procedure good.csv', 1, b'header: not step,text,second,request: column 1 is not step: "line"\n', b""),
+    ('{ cat good.csv; echo "2,5,8,1,\\",,---c,no,,ok"; } >open.csv; "$0" check stack open.csv', 1, b"line 2: not 10 fields: 5, and a quote stays open to the end of the file\n", b""),
     ('"$0" check stack /dev/null', 1, NO_STACK.encode() + b": the file is empty\n", b""),
     ('"$0" check stack - </dev/null', 1, NO_STACK.encode() + b": the file is empty\n", b""),
     ('{ head -c 70 bad.csv; sleep 0.3; tail -c +71 bad.csv; } | "$0" check stack -', 1, b'line 2, field apid: not 0 to 2047 in plain digits: "x"\n', b""),
@@ -320,10 +322,14 @@ FILES = {"examples/stack.csv": STACK + ROW, "bad.csv": STACK + ROW + b"2,x,8,1,,
 LOADS = b"0 ann stack a examples/stack.csv\n1 ann stack b bad.csv\n2 ann procedure c bad.csv\n3 ann stack d missing.csv\n"
 
 
+# Lines that go back in time: each that is no question lies before one above it.
+BACK = b"200 ann tick\n100 ann tick\n# 50 ann tick\n150 ann places\n150 ann tick\n200 ann tick\n1000 ann tick\n999 ann tick\n"
+
+
 def script_texts() -> list[bytes]:
     """Scripts to be checked by the program: each written line by itself, and all of them, with LF and with CRLF."""
     lines = [line.encode("latin-1") for _, line in written_lines()]
-    return [*lines, b"\n".join(lines), b"\r\n".join(lines) + b"\r", b"", b"\n\n# none\n", b"0 ann " + b"x" * 201, LOADS]
+    return [*lines, BACK, b"\n".join(lines), b"\r\n".join(lines) + b"\r", b"", b"\n\n# none\n", b"0 ann " + b"x" * 201, LOADS]
 
 
 def try_scripts(program: str, work: str) -> list[str]:
@@ -368,6 +374,10 @@ class Check(Tried):
         answered = [it for it in tried if is_answered(it) and "\n" not in it]
         self.no_faults([fault for it in written for fault in line_differs(*it)]
                        + [f"told otherwise than read: {it!r}" for it in answered if bool(fault_of(it)) == reads(it)])
+
+    def test_lines_that_go_back(self) -> None:
+        """Of a script with which nothing is wrong each line is told that lies before one above it in time."""
+        self.assertEqual(["ok", "line 2: at 100, before a line at 200", "line 5: at 150, before a line at 200", "line 8: at 999, before a line at 1000"], script_told(BACK).lines)
 
     def test_scripts(self) -> None:
         """Scripts, and the files that they load, are told as they are read."""

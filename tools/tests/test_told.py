@@ -27,6 +27,13 @@ FILES = {
     "none.tc": "",
     "load.tc": "100 ann places\n100 ann stack s1 missing.csv\n",
     "loads.tc": "100 ann stack s1 bad.csv\n100 ann procedure p1 missing.csv\n1O0 ann stack s1 bad.csv\n",
+    "good.csv": f"{STACK}1,5,8,1,,,---c,no,,ok\n2,5,8,1,,,---c,no,1,ok\n",
+    "steps.csv": "step,text,second,request\n1,check power,yes,\n",
+    "causes.tc": "".join(f"100 {line}\n" for line in (
+        "ann stack s1 good.csv", "ann procedure p1 steps.csv", "ann enter 5 ---c no 8 1 - - ok", "bob approve 1", "bob approvestack s2", "ann release 3", "bob approve 3",
+        "bob approve 3", "bob approvestack s1", "ann initiate none", "ann release 2", "ann initiate none", "ann set vs 3", "ann set k 255", "ann clock 50", "ann clock 40", "ann begin p1",
+        "ann step 1 1 done -", "ann step 1 1 done ann", "ann begin p2", "ann log 2", "ann withdraw 3", "ann withdraw 3", "ann close 3")),
+    "back.tc": "".join(f"{at} ann enter 5 ---c no 8 1 - - ok\n" for at in (200, 100, 150)),
     "text.db": "no database" * 200,
     "empty.db": "",
 }
@@ -96,6 +103,23 @@ NO_DESKS = {
 COMMANDS = ("run --db {} none.tc", "loop --w 20 {} none.tc", "serve {} 1", "report {} 0 1", "board {}", "backup {} copy.db")
 REASONS += [Case(command.format(name), 2, "", cannot(name, why)) for name, why in NO_DESKS.items() for command in COMMANDS
             if (name, command) != ("damaged.db", "report {} 0 1")]
+CAUSES = [
+    (4, "13 UnknownStack: the request came with a stack, which is approved as a whole by approvestack"),
+    (5, "13 UnknownStack: no stack has this name"),
+    (6, "4 NotApproved: the request is not approved yet"),
+    (8, "3 WrongPlace: only a request at Entered can be approved"),
+    (11, "7 Interlock: the line of the stack that it comes after is not at Completed; of an insert, or the one that an activity comes after"),
+    (12, "12 BadDirective: an initiation is taken in S6 alone: link tells the state"),
+    (13, "12 BadDirective: V(S) is set in S6 alone: link tells the state"),
+    (14, "12 BadDirective: K is more than W / 2"),
+    (16, "12 BadDirective: the time is before the spacecraft's"),
+    (18, "15 Countersign: the step needs a second person, and none is named"),
+    (19, "15 Countersign: the step needs a second person, and the one of the line itself is named"),
+    (20, "16 UnknownProcedure: no procedure has this name"),
+    (21, "16 UnknownProcedure: no execution has this number"),
+    (23, "3 WrongPlace: only a request at Entered or Approved can be withdrawn"),
+    (24, "3 WrongPlace: only a request at Confirmed, Riding, Scheduled, Accepted, Started or Doubtful can be closed"),
+]
 AT = "tcdesk: --at is Unix seconds, 0 to 4102444799 (for now: $(date +%s)), or an instant such as 2031-05-04T10:00:00Z: "
 WORDS = [Case(f"{command} --at {word}", 2, "", f"{AT}{word}\n")
          for command in ("run none.tc", "run --db new.db none.tc", "serve new.db 1", "loop new.db none.tc")
@@ -257,6 +281,15 @@ class Told(Tried):
         loop = lines_of(*[line.replace("shift.tc:6", "shift.tc:5").replace("shift.tc:7", "shift.tc:6").replace("shift", "lines")
                           for line in wanted.splitlines() if "bad.csv" not in line])
         self.assertEqual("tcdesk: new.db is a new desk\n" + loop, run(self.folder, ["loop", "new.db", "lines.tc", "--verbose"]).err)
+
+    def test_meanings(self) -> None:
+        """Of a refusal that has several causes the one is told that the line has."""
+        wanted = [f"causes.tc:{at}: refused {what}" for at, what in CAUSES]
+        self.all_end([Case("run --verbose causes.tc", 1, None, lines_of(*wanted))])
+
+    def test_lines_that_go_back(self) -> None:
+        """A line is told that lies before the latest move, and not before the last one alone."""
+        self.all_end([Case("run --verbose back.tc", 0, None, lines_of("back.tc:2: at 100, before the last move at 200", "back.tc:3: at 150, before the last move at 200"))])
 
     def test_loop_loads(self) -> None:
         """A loop loads no file: of a line that would nothing else is told, but where the line is none."""

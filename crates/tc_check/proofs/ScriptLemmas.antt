@@ -9,8 +9,9 @@ use Rattle.tc_types.specs.declared.refusals.Refusal.{Refusal}
 use Rattle.tc_types.specs.declared.refusals.Refusal.TheVariants.{TooLong}
 use Rattle.tc_check.specs.declared.findings.Findings.{Findings}
 use Rattle.tc_check.specs.Findings.{Shows}
-use Rattle.tc_check.specs.Scripts.{IsLoadLine, SaysOfFile, SaysOfLine, SaysOfLines, SaysSeen}
+use Rattle.tc_check.specs.Scripts.{IsLoadLine, SaysOfFile, SaysOfLine, SaysOfLines, SaysSeen, back_line, back_lines_from, latest_with}
 use Rattle.tc_check.specs.Sources.{Gives, Seen, seen_at}
+use Rattle.tc_check.proofs.FindingLemmas.{ShowsFront, front_all, front_more, front_none}
 
 -- ---- what was seen
 
@@ -91,3 +92,25 @@ told_all number left all gave gives kept so none =
       so.given,
       so.shows,
     )
+
+-- ---- lines that go back
+
+-- the lines from this number on are left, and those that go back before them are kept
+pub record BackSoFar (number : ℕ) (latest : List ℕ) (left all : List (List ℕ)) (kept : Findings) : Type 0 where
+  pub front : ShowsFront (back_lines_from 1 [] all) (back_lines_from number latest left) kept
+  pub count : number + length left ≡ 1 + length all
+
+pub back_none : (left all : List (List ℕ)) (kept : Findings) → left ≡ all → Shows [] kept → BackSoFar 1 [] left all kept
+back_none left all kept is shows = rw is (record { front = front_none (back_lines_from 1 [] all) kept shows; count = refl })
+
+-- a line more
+pub back_next : (number : ℕ) (latest later line : List ℕ) (left others all : List (List ℕ)) (old new : Findings) → BackSoFar number latest left all old → left ≡ line ∷ others
+    → later ≡ latest_with latest line → ((found : List (List ℕ)) → Shows found old → Shows (found ++ back_line number latest line) new) → BackSoFar (number + 1) later others all new
+back_next number latest later line left others all old new so is next adds = record {
+  front = rw next (front_more (back_lines_from 1 [] all) (back_line number latest line) (back_lines_from (number + 1) (latest_with latest line) others) old new
+      (subst (λ (l : List (List ℕ)). ShowsFront (back_lines_from 1 [] all) (back_lines_from number latest l) old) is so.front) adds);
+  count = let before : number + length (line ∷ others) ≡ 1 + length all = rw is at so.count in omega (arith, before);
+}
+
+pub back_all : (number : ℕ) (latest : List ℕ) (left all : List (List ℕ)) (kept : Findings) → BackSoFar number latest left all kept → left ≡ [] → Shows (back_lines_from 1 [] all) kept
+back_all number latest left all kept so none = front_all (back_lines_from 1 [] all) (back_lines_from number latest left) kept so.front (rw none refl)

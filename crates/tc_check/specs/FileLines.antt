@@ -40,3 +40,18 @@ lines_from at line (byte ∷ others) = begins_at at byte line ++ lines_from (ste
 
 abbrev pub record_lines : List ℕ → List ℕ
 record_lines text = lines_from state.StartRecord 1 (strip_bom text)
+
+-- ---- a quote that stays open
+
+abbrev pub is_quoted : State → Bool
+is_quoted state.InQuoted = true
+is_quoted other = false
+
+-- the reading of these bytes ends between quotes
+abbrev pub ends_quoted_from : State → List ℕ → Bool
+ends_quoted_from at [] = is_quoted at
+ends_quoted_from at (byte ∷ others) = ends_quoted_from (step default_config at byte).0 others
+
+-- a quote of the text stays open to its end
+abbrev pub ends_quoted : List ℕ → Bool
+ends_quoted text = ends_quoted_from state.StartRecord (strip_bom text)

@@ -1,7 +1,9 @@
 -- What is wrong with a line of a script, in words.
-use Rattle.std.specs.Prelude.{ℕ, ◌-◌, nat_le, Bool, true, false, not, ◌&&◌, if◌then◌else◌, List, [], ◌∷◌, ◌++◌, codes, get_or}
+use Rattle.std.specs.Prelude.{ℕ, ◌-◌, nat_eq, nat_le, Bool, true, false, not, ◌&&◌, ◌||◌, if◌then◌else◌, List, [], ◌∷◌, ◌++◌, codes, get_or}
 use Rattle.std.specs.List.{list_any}
+use Rattle.std.specs.Cmp.Lexicographic.{pointwise}
 use Rattle.std.specs.Fmt.{decimal}
+use Rattle.tc_types.specs.Words.{words}
 use Rattle.tc_script.specs.declared.faults.LineFault.{LineFault}
 use Rattle.tc_script.specs.declared.faults.LineFault.TheVariants as fault
 use Rattle.tc_script.specs.declared.slots.Slot.{Slot}
@@ -60,3 +62,17 @@ fault_text number line fault.TooLong = line_place number ++ codes ": more than 2
 fault_text number line (fault.Word which at) = word_place number which ++ word_text at (word_of line which)
 fault_text number line (fault.Missing which at) = word_place number which ++ codes "missing, " ++ slot_text at
 fault_text number line (fault.Extra which) = word_place number which ++ extra_text (word_of line which)
+
+-- ---- a line that a run takes, and each desk refuses
+
+-- one of these words stands among those after it, too
+abbrev pub has_twice : List (List ℕ) → Bool
+has_twice [] = false
+has_twice (word ∷ others) = list_any (pointwise nat_eq word) others || has_twice others
+
+-- An insert names a request twice: no desk takes it. The requests of an insert are word 9 of its line, parted by ;, and no other line has a ; there.
+abbrev pub names_twice : List ℕ → Bool
+names_twice line = has_twice (words 59 (word_of line 9))
+
+abbrev pub twice_text : ℕ → List ℕ → List ℕ
+twice_text number line = word_place number 9 ++ codes "a request that is named twice: " ++ quoted (word_of line 9)

@@ -1,5 +1,5 @@
 -- What stands in the fields of a row.
-use Rattle.std.specs.Prelude.{ℕ, List, [], get_or}
+use Rattle.std.specs.Prelude.{ℕ, ◌==◌, Bool, List, [], count_by, get_or}
 use Rattle.tc_csv.specs.declared.columns.Column.{Column}
 use Rattle.tc_csv.specs.declared.columns.Column.TheVariants as column
 use Rattle.tc_script.specs.declared.sorts.Sort.{Sort}
@@ -29,3 +29,11 @@ value_in of fields = get_or fields (column_place of) []
 -- what a row of a stack commands, by its service and its subtype
 abbrev pub sort_of_row : List (List ℕ) → Sort
 sort_of_row fields = sort_of (is_scheduling (get_or fields 2 [])) (get_or fields 3 [])
+
+-- how often ; stands in a field
+abbrev pub semicolons : List ℕ → ℕ
+semicolons field = count_by (λ byte. byte == 59) field
+
+-- a row has as many times as targets, both parted by ;
+abbrev pub has_time_each : List (List ℕ) → Bool
+has_time_each fields = semicolons (get_or fields 5 []) == semicolons (get_or fields 4 [])

@@ -13,8 +13,11 @@ hex_digit value = if nat_lt value 10 then 48 + value else 87 + value
 abbrev pub shown_byte : ℕ → List ℕ
 shown_byte byte = if is_shown byte then byte ∷ [] else codes "\\x" ++ hex_digit (byte / 16) ∷ hex_digit (byte % 16) ∷ []
 
--- between quotes; of a longer value the first 40 bytes, and two dots behind it
+abbrev pub shown : List ℕ → List ℕ
+shown value = flat_map shown_byte value
+
+-- between quotes; of a longer value the first 256 bytes, and two dots after it: eight instants are shown whole, and so is each act
 abbrev pub quoted : List ℕ → List ℕ
 quoted value =
-    if nat_le (length value) 40 then codes "\"" ++ flat_map shown_byte value ++ codes "\""
-    else codes "\"" ++ flat_map shown_byte (take 40 value) ++ codes "\".."
+    if nat_le (length value) 256 then codes "\"" ++ flat_map shown_byte value ++ codes "\""
+    else codes "\"" ++ flat_map shown_byte (take 256 value) ++ codes "\".."

@@ -1,5 +1,5 @@
 -- Why a text breaks a rule: what does not stand there, or stands there and may not.
-use Rattle.std.specs.Prelude.{ℕ, List, codes}
+use Rattle.std.specs.Prelude.{ℕ, Bool, if◌then◌else◌, List, codes}
 use Rattle.tc_types.specs.declared.loads.LoadKind.{LoadKind}
 use Rattle.tc_types.specs.declared.loads.LoadKind.TheVariants as kind
 use Rattle.tc_csv.specs.declared.faults.Rule.{Rule}
@@ -29,11 +29,17 @@ why_target Delete = codes "not an earlier line"
 why_target Shift = codes "not an earlier line"
 why_target _ = codes "not empty"
 
-abbrev pub why_time : Sort → List ℕ
-why_time Insert = codes "not as many instants as targets, parted by ;"
-why_time Shift = codes "not seconds, -4102444799 to 4102444799"
-why_time ShiftAll = codes "not seconds, -4102444799 to 4102444799"
-why_time _ = codes "not empty"
+-- of an insert: too few times or too many, or one of them is no instant that the desk takes
+abbrev pub why_instants : Bool → List ℕ
+why_instants has_each =
+    if has_each then codes "not instants of whole seconds from 1970 to 2099 with an offset, such as 2031-05-04T10:00:00Z, parted by ;"
+    else codes "not as many instants as targets, parted by ;"
+
+abbrev pub why_time : Sort → Bool → List ℕ
+why_time Insert has_each = why_instants has_each
+why_time Shift has_each = codes "not seconds, -4102444799 to 4102444799"
+why_time ShiftAll has_each = codes "not seconds, -4102444799 to 4102444799"
+why_time _ has_each = codes "not empty"
 
 abbrev pub why_ack : Sort → List ℕ
 why_ack Other = codes "not aspc, with - for each report that is not wanted"
@@ -47,25 +53,25 @@ abbrev pub why_target_row : Sort → List ℕ
 why_target_row Insert = codes "a line of service 11, one whose ack has no a, or one that is named twice"
 why_target_row _ = codes "a line of service 11"
 
--- why a text of this kind breaks a rule, at a row that commands this
-abbrev pub why : LoadKind → Sort → Rule → List ℕ
-why of sort rule.TextLength = codes "more than 65536 bytes"
-why of sort rule.RowCount = why_rows of
-why of sort rule.Header = why_header of
-why of sort rule.SomeRow = codes "missing"
-why of sort rule.FieldCount = why_fields of
-why of sort rule.Line = codes "not the number of the line"
-why of sort rule.Apid = codes "not 0 to 2047 in plain digits"
-why of sort rule.Service = codes "not 1 to 255 in plain digits"
-why of sort rule.Subtype = why_subtype sort
-why of sort rule.Target = why_target sort
-why of sort rule.Time = why_time sort
-why of sort rule.Ack = why_ack sort
-why of sort rule.Critical = codes "neither yes nor no"
-why of sort rule.After = codes "neither empty nor an earlier line"
-why of sort rule.Outcome = why_outcome sort
-why of sort rule.TargetRow = why_target_row sort
-why of sort rule.StepNumber = codes "not the number of the step"
-why of sort rule.StepText = codes "not 1 to 80 printable characters of ASCII"
-why of sort rule.Second = codes "neither yes nor no"
-why of sort rule.StepRequest = codes "neither empty nor a number"
+-- why a text of this kind breaks a rule, at a row that commands this and has a time for each target or not
+abbrev pub why : LoadKind → Sort → Bool → Rule → List ℕ
+why of sort has_each rule.TextLength = codes "more than 65536 bytes"
+why of sort has_each rule.RowCount = why_rows of
+why of sort has_each rule.Header = why_header of
+why of sort has_each rule.SomeRow = codes "missing"
+why of sort has_each rule.FieldCount = why_fields of
+why of sort has_each rule.Line = codes "not the number of the line"
+why of sort has_each rule.Apid = codes "not 0 to 2047 in plain digits"
+why of sort has_each rule.Service = codes "not 1 to 255 in plain digits"
+why of sort has_each rule.Subtype = why_subtype sort
+why of sort has_each rule.Target = why_target sort
+why of sort has_each rule.Time = why_time sort has_each
+why of sort has_each rule.Ack = why_ack sort
+why of sort has_each rule.Critical = codes "neither yes nor no"
+why of sort has_each rule.After = codes "neither empty nor an earlier line"
+why of sort has_each rule.Outcome = why_outcome sort
+why of sort has_each rule.TargetRow = why_target_row sort
+why of sort has_each rule.StepNumber = codes "not the number of the step"
+why of sort has_each rule.StepText = codes "not 1 to 80 printable characters of ASCII"
+why of sort has_each rule.Second = codes "neither yes nor no"
+why of sort has_each rule.StepRequest = codes "neither empty nor a number"

@@ -3,7 +3,7 @@ ghost use Rattle.std.specs.Prelude.{◌≡◌, ◌==◌, ◌+◌, if◌then◌el
 ghost use Rattle.csv.specs.Machine.{in_field, start_field, start_record, step};
 ghost use Rattle.csv.specs.Reading.{default_config, strip_bom};
 ghost use Rattle.csv.specs.declared.parser.Terminator.TheVariants as term;
-ghost use Rattle.tc_check.specs.FileLines.{begins, begins_at, record_lines, state_of};
+ghost use Rattle.tc_check.specs.FileLines.{begins, begins_at, ends_quoted, is_quoted, record_lines, state_of};
 
 use crate::looks::has_mark;
 use std::alloc::{AllocError, Global};
@@ -108,4 +108,23 @@ pub(crate) fn record_lines(alloc: Global, text: &[u8]) -> Result<Vec<usize>, All
         within = after(within, *byte);
     }
     Ok(lines)
+}
+
+/// Whether it stands between quotes.
+fn is_quoted(within: Within) -> bool
+    ensures { result ≡ is_quoted (state_of within) }
+{
+    matches!(within, Within::Quoted)
+}
+
+/// Whether a quote of a text stays open to its end.
+pub(crate) fn ends_quoted(text: &[u8]) -> bool
+    ensures { result ≡ ends_quoted text.now }
+{
+    let mut within = Within::Between;
+    let bytes = without_mark(text);
+    for byte in bytes {
+        within = after(within, *byte);
+    }
+    is_quoted(within)
 }

@@ -1,10 +1,12 @@
 //! What is wrong with a line of a script, in words.
-ghost use Rattle.std.specs.Prelude.{◌≡◌, ◌++◌, [], IfOk, codes, get_or};
+ghost use Rattle.std.specs.Prelude.{◌≡◌, ◌++◌, [], IfOk, codes, get_or, nat_eq};
+ghost use Rattle.std.specs.Cmp.Lexicographic.{pointwise};
 ghost use Rattle.std.specs.List.{list_any};
 ghost use Rattle.std.specs.String.{string_bytes};
+ghost use Rattle.tc_types.specs.Words.{words, words_left};
 ghost use Rattle.tc_script.specs.Faults.{line_words};
 ghost use Rattle.tc_script.specs.SlotTexts.{slot_text};
-ghost use Rattle.tc_check.specs.LineTexts.{extra_text, fault_text, in_word, is_path, is_strange, line_place, why_word, word_of, word_place, word_text};
+ghost use Rattle.tc_check.specs.LineTexts.{extra_text, fault_text, has_twice, in_word, is_path, is_strange, line_place, names_twice, twice_text, why_word, word_of, word_place, word_text};
 
 use crate::looks::has_in;
 use crate::shown::quoted;
@@ -91,14 +93,14 @@ fn word_at(line: &[u8], place: usize) -> &[u8]
 }
 
 /// The word with this number.
-fn word_of(line: &[u8], which: usize) -> &[u8]
+pub(crate) fn word_of(line: &[u8], which: usize) -> &[u8]
     ensures { result.now ≡ word_of line.now which }
 {
     word_at(line, which.saturating_sub(1))
 }
 
 /// A line by its number.
-fn line_place(alloc: Global, number: usize) -> Result<String, AllocError>
+pub(crate) fn line_place(alloc: Global, number: usize) -> Result<String, AllocError>
     ensures { IfOk result (λ text. string_bytes text ≡ line_place number) }
 {
     format!(in alloc; "line {number}")
@@ -179,4 +181,61 @@ pub(crate) fn fault_text(
         LineFault::Missing { which, at } => missing_line(alloc, number, which, at),
         LineFault::Extra { which } => extra_line(alloc, number, line, which),
     }
+}
+
+/// Whether a word is one of a list, whose words stand between semicolons.
+fn has_part(list: &[u8], word: &[u8]) -> bool
+    ensures { result ≡ list_any (pointwise nat_eq word.now) (words 59 list.now) }
+{
+    let mut left = Some(list);
+    while let Some(text) = left {
+        let (first, rest) = cut(text, b';');
+        if word == first {
+            return true;
+        }
+        left = rest;
+    }
+    false
+}
+
+/// Whether a word is one of what is left of such a list.
+fn has_part_left(left: Option<&[u8]>, word: &[u8]) -> bool
+    ensures { result ≡ list_any (pointwise nat_eq word.now) (words_left 59 left.entry) }
+{
+    match left {
+        Some(list) => has_part(list, word),
+        None => false,
+    }
+}
+
+/// Whether a list has a word twice.
+fn has_twice(list: &[u8]) -> bool
+    ensures { result ≡ has_twice (words 59 list.now) }
+{
+    let mut left = Some(list);
+    while let Some(text) = left {
+        let (first, rest) = cut(text, b';');
+        if has_part_left(rest, first) {
+            return true;
+        }
+        left = rest;
+    }
+    false
+}
+
+/// Whether a line names a request twice.
+pub(crate) fn names_twice(line: &[u8]) -> bool
+    ensures { result ≡ names_twice line.now }
+{
+    has_twice(word_of(line, 9))
+}
+
+/// What is told of a line that names a request twice.
+pub(crate) fn twice_text(alloc: Global, number: usize, line: &[u8]) -> Result<String, AllocError>
+    ensures { IfOk result (λ text. string_bytes text ≡ twice_text number line.now) }
+{
+    let mut text = word_place(alloc, number, 9)?;
+    text.push_str("a request that is named twice: ")?;
+    text.push_str(quoted(alloc, word_of(line, 9))?.as_str())?;
+    Ok(text)
 }

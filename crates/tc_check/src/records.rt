@@ -1,7 +1,7 @@
 //! The records of a text, and what stands in their fields.
 ghost use Rattle.std.specs.Prelude.{◌≡◌, [], get_or, length, map};
 ghost use Rattle.csv.specs.Records.{fields_of};
-ghost use Rattle.tc_check.specs.Rows.{column_place, sort_of_row, value_in};
+ghost use Rattle.tc_check.specs.Rows.{column_place, has_time_each, semicolons, sort_of_row, value_in};
 
 use csv::ByteRecord;
 use tc_csv::{Column, field};
@@ -39,6 +39,30 @@ pub(crate) fn sort_at(records: &[ByteRecord], place: u32) -> Sort
     match records.get(place as usize) {
         Some(fields) => sort_of_row(fields),
         None => Sort::Other,
+    }
+}
+
+/// How often `;` stands in a field.
+fn semicolons(field: &[u8]) -> usize
+    ensures { result ≡ semicolons field.now }
+{
+    field.iter().filter(|byte| **byte == b';').count()
+}
+
+/// Whether a row has as many times as targets.
+fn has_time_each(fields: &ByteRecord) -> bool
+    ensures { result ≡ has_time_each (fields_of fields.now) }
+{
+    semicolons(field(fields, 5)) == semicolons(field(fields, 4))
+}
+
+/// Whether the record at a place has as many times as targets.
+pub(crate) fn has_time_each_at(records: &[ByteRecord], place: u32) -> bool
+    ensures { result ≡ has_time_each (get_or (map fields_of records.now) place []) }
+{
+    match records.get(place as usize) {
+        Some(fields) => has_time_each(fields),
+        None => true,
     }
 }
 

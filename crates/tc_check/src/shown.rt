@@ -7,7 +7,7 @@ ghost use Rattle.tc_check.specs.Shown.{hex_digit, is_shown, quoted, shown_byte};
 use std::alloc::{AllocError, Global};
 
 /// The most bytes that are shown of a value.
-const MOST_SHOWN: usize = 40;
+const MOST_SHOWN: usize = 256;
 
 /// Whether a byte is shown as it is: a printable character of ASCII, but for the quote and the backslash.
 fn is_shown(byte: u8) -> bool
@@ -43,7 +43,7 @@ fn push_byte(text: &mut String, byte: u8) -> Result<(), AllocError>
 }
 
 /// Adds bytes.
-fn push_bytes(text: &mut String, bytes: &[u8]) -> Result<(), AllocError>
+pub(crate) fn push_bytes(text: &mut String, bytes: &[u8]) -> Result<(), AllocError>
     ensures { OnOk result (string_bytes text.new ≡ string_bytes text.old ++ flat_map shown_byte bytes.now) }
 {
     for byte in bytes {
@@ -54,13 +54,13 @@ fn push_bytes(text: &mut String, bytes: &[u8]) -> Result<(), AllocError>
 
 /// The front of a value, as much of it as is shown.
 fn front(value: &[u8]) -> &[u8]
-    requires { 40 < length value.now }
-    ensures { result.now ≡ take 40 value.now }
+    requires { 256 < length value.now }
+    ensures { result.now ≡ take 256 value.now }
 {
     &value[..MOST_SHOWN]
 }
 
-/// A value between quotes, of which no more than 40 bytes are shown: two dots stand behind one that is longer.
+/// Returns a value between quotes. Only the first 256 bytes of a longer value are shown, and two dots after them.
 pub(crate) fn quoted(alloc: Global, value: &[u8]) -> Result<String, AllocError>
     ensures { IfOk result (λ text. string_bytes text ≡ quoted value.now) }
 {

@@ -1,6 +1,6 @@
 //! What does not stand at a place of a text, in words.
 ghost use Rattle.std.specs.Prelude.{◌≡◌};
-ghost use Rattle.tc_check.specs.Words.{why, why_ack, why_fields, why_header, why_outcome, why_rows, why_subtype, why_target, why_target_row, why_time};
+ghost use Rattle.tc_check.specs.Words.{why, why_ack, why_fields, why_header, why_instants, why_outcome, why_rows, why_subtype, why_target, why_target_row, why_time};
 
 use tc_csv::Rule;
 use tc_script::Sort;
@@ -55,11 +55,22 @@ fn why_target(sort: Sort) -> &'static str
     }
 }
 
-fn why_time(sort: Sort) -> &'static str
-    ensures { result.now ≡ why_time sort }
+/// Why the times of an insert are not taken; `has_each` says whether they are as many as its targets.
+fn why_instants(has_each: bool) -> &'static str
+    ensures { result.now ≡ why_instants has_each }
+{
+    if has_each {
+        "not instants of whole seconds from 1970 to 2099 with an offset, such as 2031-05-04T10:00:00Z, parted by ;"
+    } else {
+        "not as many instants as targets, parted by ;"
+    }
+}
+
+fn why_time(sort: Sort, has_each: bool) -> &'static str
+    ensures { result.now ≡ why_time sort has_each }
 {
     match sort {
-        Sort::Insert => "not as many instants as targets, parted by ;",
+        Sort::Insert => why_instants(has_each),
         Sort::Shift | Sort::ShiftAll => "not seconds, -4102444799 to 4102444799",
         _ => "not empty",
     }
@@ -93,9 +104,9 @@ fn why_target_row(sort: Sort) -> &'static str
     }
 }
 
-/// Why a rule is broken by a text of a kind, at a row that commands this.
-pub(crate) fn why(kind: LoadKind, sort: Sort, rule: Rule) -> &'static str
-    ensures { result.now ≡ why kind sort rule }
+/// Returns why a text of a kind breaks a rule, at a row that commands this; `has_each` says whether the row has as many times as targets.
+pub(crate) fn why(kind: LoadKind, sort: Sort, has_each: bool, rule: Rule) -> &'static str
+    ensures { result.now ≡ why kind sort has_each rule }
 {
     match rule {
         Rule::TextLength => "more than 65536 bytes",
@@ -108,7 +119,7 @@ pub(crate) fn why(kind: LoadKind, sort: Sort, rule: Rule) -> &'static str
         Rule::Service => "not 1 to 255 in plain digits",
         Rule::Subtype => why_subtype(sort),
         Rule::Target => why_target(sort),
-        Rule::Time => why_time(sort),
+        Rule::Time => why_time(sort, has_each),
         Rule::Ack => why_ack(sort),
         Rule::Critical | Rule::Second => "neither yes nor no",
         Rule::After => "neither empty nor an earlier line",

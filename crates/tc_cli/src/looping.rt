@@ -16,7 +16,7 @@ use tc_posts::{
     Client, NumberedLine, Told, Untellable, left_out_note, numbered_lines, send_script, used_note,
 };
 use tc_room::Room;
-use tc_run::{Opening, exchange, last_moment, latest_moment, open_told};
+use tc_run::{Opening, exchange, last_moment, later, latest_moment, open_told};
 use tc_types::{Counted, Moment, Refusal};
 use tc_words::{Numbers, Telling};
 
@@ -133,7 +133,7 @@ struct HostClient<'rt, 'server, 'room, 'watch, 'script, 'writer, S: Alter + Drop
     script: &'script str,
     watch: &'watch HostWatch<'script>,
     writer: &'writer mut Counted<W>,
-    /// When the last move was before the next line, if there was one.
+    /// When the latest of the moves before the next line was, if there was one.
     last: Option<Moment>,
 }
 
@@ -185,7 +185,7 @@ impl<S: Alter + Drop, W: Write> Client for HostClient<'_, '_, '_, '_, '_, '_, S,
             refusal: refusal_of(refusal),
             last: self.last,
         });
-        self.last = last_moment(self.room);
+        self.last = later(self.last, last_moment(self.room));
         self.say_left_out(line.place, more)
     }
 
@@ -221,7 +221,7 @@ fn send_all<S: Alter + Drop, W: Write>(
     writer: &mut Counted<W>,
 ) -> Result<u8, ServiceFault> {
     let server = listen(rt, since)?;
-    let last = last_moment(room);
+    let last = latest_moment(room);
     let mut client = HostClient {
         rt,
         server: &server,

@@ -11,7 +11,7 @@ pub struct Answered<'a> {
     pub line: &'a [u8],
     /// What it was refused with, if it was.
     pub refusal: Option<Refusal>,
-    /// When the last move before it was, if there was one.
+    /// When the latest of the moves before it was, if there was one.
     pub last: Option<Moment>,
 }
 

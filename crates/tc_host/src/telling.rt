@@ -53,26 +53,98 @@ pub fn tell_opening(rt: &HostRuntime, moment: Moment, latest: Option<Moment>) {
     }
 }
 
-/// What a refusal means, in a few words.
-fn meaning(refusal: Refusal) -> &'static str {
+/// The word of a line at a place, from 0; empty where there is none.
+fn word_at(line: &[u8], place: usize) -> &[u8] {
+    let mut left = Some(line);
+    for _skipped in 0..place {
+        let Some(text) = left else {
+            return &[];
+        };
+        let (_, rest) = cut(text, b' ');
+        left = rest;
+    }
+    match left {
+        Some(text) => cut(text, b' ').0,
+        None => &[],
+    }
+}
+
+/// What a line asks for, by its third word.
+fn verb_of(line: &[u8]) -> Option<Verb> {
+    Verb::read(word_at(line, 2))
+}
+
+/// Why a request does not stand where what a line asks for can be done.
+fn wrong_place(line: &[u8]) -> &'static str {
+    match verb_of(line) {
+        Some(Verb::Withdraw) => "only a request at Entered or Approved can be withdrawn",
+        Some(Verb::Approve) => "only a request at Entered can be approved",
+        Some(Verb::Release) => "only a request at Approved can be released",
+        Some(Verb::Step) => "only a request at Approved can be released, and the step releases one",
+        Some(Verb::Close) =>
+            "only a request at Confirmed, Riding, Scheduled, Accepted, Started or Doubtful can be closed",
+        _ => "the request stands at a place where this cannot be done",
+    }
+}
+
+/// Why a stack is not known, or why its requests are not approved one by one.
+fn unknown_stack(line: &[u8]) -> &'static str {
+    match verb_of(line) {
+        Some(Verb::Approve) =>
+            "the request came with a stack, which is approved as a whole by approvestack",
+        _ => "no stack has this name",
+    }
+}
+
+/// Why a directive, or a time of the spacecraft, is not taken.
+fn bad_directive(line: &[u8]) -> &'static str {
+    match verb_of(line) {
+        Some(Verb::Initiate) => "an initiation is taken in S6 alone: link tells the state",
+        Some(Verb::Set) if word_at(line, 3) == b"k".as_slice() => "K is more than W / 2",
+        Some(Verb::Set) => "V(S) is set in S6 alone: link tells the state",
+        Some(Verb::Clock) => "the time is before the spacecraft's",
+        _ => "the directive cannot be carried out now, or its number is out of range",
+    }
+}
+
+/// Why a step is not recorded without a second person.
+fn countersign(line: &[u8]) -> &'static str {
+    if word_at(line, 6) == b"-".as_slice() {
+        "the step needs a second person, and none is named"
+    } else {
+        "the step needs a second person, and the one of the line itself is named"
+    }
+}
+
+/// Why there is no procedure or no execution.
+fn unknown_procedure(line: &[u8]) -> &'static str {
+    match verb_of(line) {
+        Some(Verb::Begin | Verb::Steps) => "no procedure has this name",
+        Some(Verb::Step | Verb::Log) => "no execution has this number",
+        _ => "no procedure or execution has this name",
+    }
+}
+
+/// Why a line was refused with this, in a few words.
+fn meaning(refusal: Refusal, line: &[u8]) -> &'static str {
     match refusal {
         Refusal::BadText => "the text is none",
         Refusal::UnknownRequest => "no request has this number",
-        Refusal::WrongPlace => "the request stands at a place where this cannot be done",
+        Refusal::WrongPlace => wrong_place(line),
         Refusal::NotApproved => "the request is not approved yet",
         Refusal::SamePerson => "the author may not approve",
         Refusal::ApprovedAlready => "this person approved already, or enough have",
-        Refusal::Interlock => "the line before is not completed",
+        Refusal::Interlock =>
+            "the line of the stack that it comes after is not at Completed; of an insert, or the one that an activity comes after",
         Refusal::IdentityInUse => "a request that is not at a final place has this name on board",
         Refusal::NameUsed => "the name is used",
         Refusal::WaitQueueFull => "a request waits already",
         Refusal::ServiceNotActive => "the link takes no requests now",
-        Refusal::BadDirective =>
-            "the directive cannot be carried out now, or its number is out of range",
-        Refusal::UnknownStack => "no stack has this name",
+        Refusal::BadDirective => bad_directive(line),
+        Refusal::UnknownStack => unknown_stack(line),
         Refusal::StepOutOfOrder => "the step is not the next of a running execution",
-        Refusal::Countersign => "the step wants a second person",
-        Refusal::UnknownProcedure => "no procedure or execution has this name",
+        Refusal::Countersign => countersign(line),
+        Refusal::UnknownProcedure => unknown_procedure(line),
         Refusal::TooLong => "the text is too long",
         Refusal::DeskFull => "a limit of the desk is reached",
         Refusal::BadActivity => "the request may not be the activity or target of this one",
@@ -154,16 +226,8 @@ fn reason(alloc: Global, refusal: Refusal, line: &[u8], loads: bool) -> Option<S
     };
     match found {
         Ok(Some(text)) => Some(text),
-        _ => String::from_str(alloc, meaning(refusal)).ok(),
+        _ => String::from_str(alloc, meaning(refusal, line)).ok(),
     }
-}
-
-/// What a line asks for, by its third word.
-fn verb_of(line: &[u8]) -> Option<Verb> {
-    let (_, behind) = cut(line, b' ');
-    let (_, behind) = cut(behind?, b' ');
-    let (word, _) = cut(behind?, b' ');
-    Verb::read(word)
 }
 
 /// Whether it asks for an answer alone.

@@ -9,6 +9,6 @@ mod opened;
 mod run;
 
 pub use kept::run_kept;
-pub use moments::{last_moment, latest_moment};
+pub use moments::{last_moment, later, latest_moment};
 pub use opened::{Opening, Unopened, open_told};
 pub use run::{exchange, run_script};

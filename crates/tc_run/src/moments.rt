@@ -20,3 +20,12 @@ pub fn latest_moment<S: Alter + Drop>(room: &Room<S>) -> Option<Moment> {
     }
     Some(latest)
 }
+
+/// Returns the later of two moments, if there is one.
+pub fn later(one: Option<Moment>, other: Option<Moment>) -> Option<Moment> {
+    match (one, other) {
+        (Some(first), Some(second)) if second.get() < first.get() => Some(first),
+        (first, None) => first,
+        (_, second) => second,
+    }
+}

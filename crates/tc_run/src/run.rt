@@ -16,7 +16,7 @@ ghost use Rattle.tc_closed.specs.Scripts.{Ends};
 ghost use Rattle.tc_run.specs.Stops.{LeavesPart, Stops, StopsAfter, StopsNext, Unanswered};
 ghost use Rattle.tc_closed.specs.declared.paths.PathFault.TheVariants as path_fault;
 
-use crate::moments::last_moment;
+use crate::moments::{last_moment, later, latest_moment};
 use bstr::ByteSlice;
 use sqlite::Alter;
 use std::alloc::{AllocError, Global};
@@ -25,7 +25,7 @@ use tc_check::is_skipped;
 use tc_closed::{Answered, MOST_FILE_BYTES, PathFault, Paths, ScriptFault, Watch, put, status_of};
 use tc_lines::read::load_reader::read_load;
 use tc_room::{Answer, Room, answer_line, answer_load, answer_places};
-use tc_types::{Counted, Load};
+use tc_types::{Counted, Load, Moment};
 use tc_world::Config;
 
 /// Runs the lines of a script on a desk where nothing happened yet, and writes what they are answered, and at the end
@@ -136,11 +136,30 @@ pub fn exchange(
     Ok(bytes)
 }
 
-/// Takes the line with this number in the script, and says whether it was refused.
+/// The place of a line in a script.
+#[derive(Clone, Copy)]
+struct Turn {
+    /// Its number, from 1.
+    number: usize,
+    /// When the latest of the moves before it was, if there was one.
+    latest: Option<Moment>,
+}
+
+impl Turn {
+    /// Returns the place of the next line, before which the last move was at this moment.
+    fn next(self, last: Option<Moment>) -> Turn {
+        Turn {
+            number: self.number.saturating_add(1),
+            latest: later(self.latest, last),
+        }
+    }
+}
+
+/// Takes the line at this place in the script, and says whether it was refused.
 fn run_line<S: Alter + Drop, P: Paths, T: Watch, W: Write>(
     alloc: Global,
     room: &mut Room<S>,
-    number: usize,
+    turn: Turn,
     line: &[u8],
     paths: &mut P,
     watch: &T,
@@ -152,17 +171,16 @@ fn run_line<S: Alter + Drop, P: Paths, T: Watch, W: Write>(
     if is_skipped(line) {
         return Ok(false);
     }
-    let last = last_moment(room);
     let answer = answer(alloc, room, line, paths)?;
     let refused = answer.refused();
     let refusal = answer.refusal;
     let shown = exchange(alloc, watch.echoes(), line, answer.text)?;
     put(writer, &shown)?;
     watch.answered(&Answered {
-        number,
+        number: turn.number,
         line,
         refusal,
-        last,
+        last: turn.latest,
     });
     Ok(refused)
 }
@@ -180,10 +198,13 @@ fn run_lines<S: Alter + Drop, P: Paths, T: Watch, W: Write>(
         (λ fault. StopsAfter S.Store (T.echoes watch.now) fault room.old (script_lines text.now) (P.given paths.old) (P.given paths.new) (W.contents (inner_of writer.old)) (W.contents (inner_of writer.new)) room.new) (counts_of writer.old) (counts_of writer.new) result }
 {
     let mut refused = false;
-    let mut number: usize = 0;
+    let mut turn = Turn {
+        number: 0,
+        latest: latest_moment(room),
+    };
     for line in text.lines() {
-        number = number.saturating_add(1);
-        refused |= run_line(alloc, room, number, line, paths, watch, writer)?;
+        turn = turn.next(last_moment(room));
+        refused |= run_line(alloc, room, turn, line, paths, watch, writer)?;
     }
     Ok(refused)
 }
