@@ -22,7 +22,7 @@ use Rattle.tc_types.proofs.RideLemmas.{each_appended}
 use Rattle.tc_board.specs.declared.outcomes.Reporter.{Reporter}
 use Rattle.tc_board.specs.declared.schedules.ScheduleFault.{ScheduleFault}
 use Rattle.tc_board.specs.Schedule.{ScheduleState, is_of, is_same_identity, has_identity, has_one_twice, meets_one, IsSchedule, listed, shifted, failure_of, commanded, after_command}
-use Rattle.tc_board.specs.Reports.{tells, asked, is_refused, first_reports, later_reports}
+use Rattle.tc_board.specs.Reports.{tells, asked, first_reports, later_reports}
 use Rattle.tc_board.specs.Board.{BoardState, reporter_of, outcome_of, accept_reports, accepted, shown, command_reports, task_reports, after_task, work_reports, worked}
 use Rattle.tc_board.specs.Mirror.{MirrorState, mirror_of, mirror_after, is_listed_of, without, with_activity, moved, told, told_by, verified}
 use Rattle.tc_board.specs.Follows.{Roll, IsActivityOf, IsRequestOf, command_in, inserted, with_command, read_all}
@@ -246,8 +246,3 @@ pub accept_follows : (roll : Roll) (b : BoardState) (t : Telecommand) → IsRequ
     → read_all roll (mirror_of b.schedule) (accept_reports t) ≡ mirror_of (accepted t b).schedule
 accept_follows roll b t request all =
     first_read roll (reporter_of t) (mirror_of b.schedule) (outcome_of t.task) (without-absent t.request b.schedule (flying_absent roll t.request b.schedule.activities request.flies all))
-    ∙ same (is_refused (outcome_of t.task))
-  where
-    same : (refused : Bool) → mirror_of b.schedule ≡ mirror_of (cond refused b (record b { buffer = b.buffer ++ t ∷ [] })).schedule
-    same true = refl
-    same false = refl

@@ -1,5 +1,6 @@
 mod DueLemmas
 mod FollowLemmas
+mod LogWalks
 mod LoopLemmas
 mod MirrorLemmas
 pub mod NameLemmas

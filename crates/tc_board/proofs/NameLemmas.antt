@@ -90,11 +90,11 @@ task_kept K now (Schedule command) s new all = by_failure (failure_of now comman
 
 -- once a request came
 accepted_kept : (K : ℕ → Type 0) (b : BoardState) (t : Telecommand) → AreNamed K b → Knows K t → AreNamed K (accepted t b)
-accepted_kept K b t named known = by_test (is_refused (outcome_of t.task))
+accepted_kept K b t named known = record { buffer = by_test (is_refused (outcome_of t.task)); activities = named.activities }
   where
-    by_test : (refused : Bool) → AreNamed K (cond refused b (record b { buffer = b.buffer ++ t ∷ [] }))
-    by_test true = named
-    by_test false = record { buffer = each_appended (Knows K) b.buffer t named.buffer known; activities = named.activities }
+    by_test : (refused : Bool) → AllByRecursion (Knows K) (cond refused b.buffer (b.buffer ++ t ∷ []))
+    by_test true = named.buffer
+    by_test false = each_appended (Knows K) b.buffer t named.buffer known
 
 -- once the oldest request was carried out
 worked_kept : (K : ℕ → Type 0) (b : BoardState) (buffer : List Telecommand) → AreNamed K b → AllByRecursion (Knows K) buffer → AreNamed K (worked b buffer)

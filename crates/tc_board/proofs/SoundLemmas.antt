@@ -240,11 +240,11 @@ new_sound roll time = record { requests = tt; activities = tt; schedule = schedu
 
 -- once a request came
 pub accepted_sound : (roll : Roll) (b : BoardState) (t : Telecommand) → IsBoardOf roll b → IsRequestOf roll t → IsBoardOf roll (accepted t b)
-accepted_sound roll b t is request = by_test (is_refused (outcome_of t.task))
+accepted_sound roll b t is request = record { requests = by_test (is_refused (outcome_of t.task)); activities = is.activities; schedule = is.schedule }
   where
-    by_test : (refused : Bool) → IsBoardOf roll (cond refused b (record b { buffer = b.buffer ++ t ∷ [] }))
-    by_test true = is
-    by_test false = record { requests = each_appended (IsRequestOf roll) b.buffer t is.requests request; activities = is.activities; schedule = is.schedule }
+    by_test : (refused : Bool) → AllByRecursion (IsRequestOf roll) (cond refused b.buffer (b.buffer ++ t ∷ []))
+    by_test true = is.requests
+    by_test false = each_appended (IsRequestOf roll) b.buffer t is.requests request
 
 -- once the oldest request was carried out
 pub worked_sound : (roll : Roll) (b : BoardState) (buffer : List Telecommand) → IsBoardOf roll b → AllByRecursion (IsRequestOf roll) buffer → IsBoardOf roll (worked b buffer)

@@ -24,10 +24,12 @@ pub record BoardState : Type 0 where
   -- oldest first
   pub buffer : List Telecommand
   pub schedule : ScheduleState
+  -- all that it was given since it was made, in order
+  pub given : List Telecommand
 
--- a spacecraft at this time: nothing is buffered, its schedule is new
+-- a spacecraft at this time: nothing is buffered, its schedule is new, and it was given nothing
 abbrev pub new_board : ℕ → BoardState
-new_board time = record { time = time; buffer = []; schedule = empty_schedule }
+new_board time = record { time = time; buffer = []; schedule = empty_schedule; given = [] }
 
 -- whose reports those of a request and of an activity are
 abbrev pub reporter_of : Telecommand → Reporter
@@ -51,9 +53,12 @@ outcome_of (Schedule command) = Completes
 abbrev pub accept_reports : Telecommand → List Telemetry
 accept_reports t = map (tells (reporter_of t)) (first_reports t.ack (outcome_of t.task))
 
--- one that is not refused enters the buffer
+-- The spacecraft was given this one, which enters the buffer if it is not refused.
 abbrev pub accepted : Telecommand → BoardState → BoardState
-accepted t b = if is_refused (outcome_of t.task) then b else record b { buffer = b.buffer ++ t ∷ [] }
+accepted t b = record b {
+  given = b.given ++ t ∷ [];
+  buffer = if is_refused (outcome_of t.task) then b.buffer else b.buffer ++ t ∷ [];
+}
 
 -- ---- the oldest request is carried out
 

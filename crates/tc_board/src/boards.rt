@@ -5,6 +5,7 @@ ghost use Rattle.std.specs.List.{flat_map};
 ghost use Rattle.tc_board.specs.Schedule.{failure_of, after_command, Obeys, Becomes};
 ghost use Rattle.tc_board.specs.Board.{new_board, reporter_of, reporter_at, outcome_of, accept_reports, accepted, command_reports, task_reports, after_task, work_reports, worked, released, ClockReports, clocked, oldest_of};
 
+use crate::logs::Log;
 use crate::outcomes::{Reporter, is_refused};
 use crate::schedules::{Schedule, ScheduleFault};
 use std::alloc::{AllocError, Allocator};
@@ -21,13 +22,14 @@ pub const BUFFER: usize = 4;
 /// The code of an activity that falls due while the schedule is disabled (this desk's own).
 pub const NOT_ENABLED: u8 = 5;
 
-/// The spacecraft: its time, its input buffer, oldest first, and its schedule. A contract sees these.
+/// The spacecraft: its time, its input buffer, oldest first, its schedule, and all that it was given since it was made. A contract sees these.
 #[derive(Drop)]
 pub struct Board<A: Allocator + Copy + Drop> {
     alloc: A,
     time: Moment,
     buffer: VecDeque<Telecommand, A>,
     schedule: Schedule<A>,
+    given: Log<Telecommand>,
 }
 
 impl<A: Allocator + Copy + Drop> Model for Board<A> {
@@ -37,7 +39,7 @@ impl<A: Allocator + Copy + Drop> Model for Board<A> {
 
     ghost Value = { BoardState };
 
-    ghost view = { λ b. record { time = b.time; buffer = b.buffer.items; schedule = b.schedule } };
+    ghost view = { λ b. record { time = b.time; buffer = b.buffer.items; schedule = b.schedule; given = b.given.entries } };
 
     ghost invariant = { λ b. (length b.buffer.items ≤ 4) × (4 ≤ deque_capacity b.buffer) };
 }
@@ -192,6 +194,7 @@ impl<A: Allocator + Copy + Drop> Board<A> {
             time,
             buffer,
             schedule,
+            given: Log::new(),
         })
     }
 
@@ -226,8 +229,8 @@ impl<A: Allocator + Copy + Drop> Board<A> {
         &self.schedule
     }
 
-    /// A request comes: its report of acceptance is made at once, if it makes one, and a request that is not refused enters
-    /// the buffer. It takes no memory: there is room.
+    /// Takes a request: writes it into the log, returns its report of acceptance, if it makes one, and puts it into the buffer if it is not
+    /// refused. It takes no memory: there is room.
     pub fn accept(&mut self, request: Telecommand) -> Option<Telemetry>
         requires { length self.old.buffer < 4 }
         ensures reports { option_to_list result ≡ accept_reports request }
@@ -236,6 +239,7 @@ impl<A: Allocator + Copy + Drop> Board<A> {
         let outcome = outcome_of(&request.task);
         let reporter = reporter_of(&request);
         let report = reporter.first_report(outcome);
+        self.write_down(&request);
         if is_refused(&outcome) {
             return report;
         }
@@ -243,7 +247,14 @@ impl<A: Allocator + Copy + Drop> Board<A> {
         report
     }
 
-    /// A request enters the buffer, which has room.
+    /// Writes into the log that the spacecraft was given this request.
+    fn write_down(&mut self, request: &Telecommand)
+        ensures { self.new ≡ record self.old { given = self.old.given ++ request.now ∷ [] } }
+    {
+        self.given = self.given.with(request);
+    }
+
+    /// Puts a request into the buffer, which has room.
     fn enter(&mut self, request: &Telecommand)
         requires { length self.old.buffer < 4 }
         ensures { self.new ≡ record self.old { buffer = self.old.buffer ++ request.now ∷ [] } }

@@ -4,6 +4,7 @@
 
 mod boards;
 pub mod laws;
+mod logs;
 mod mirrors;
 mod outcomes;
 mod schedules;

@@ -70,7 +70,7 @@ steps_stand : {U D : Type 0} (up : Kind U Frame) (down : Kind D Report) (stamp :
     → IsStanding up down desk → IsStanding up down (with_book desk book)
 steps_stand up down stamp desk book steps good stands =
     let along = steps_tied desk.opened stamp desk.parts.book book (waiting_requests desk.parts.world.fop) (all_sent desk.parts.world) (all_confirmed desk.parts.world) steps stands.tied in
-    record { tied = along.tied; good = good; claims = stands.claims; fits = stands.fits; open_farm = stands.open_farm; given = record { came = stands.given.came; requests = stands.given.requests; bodies = bodies_stay desk.parts.book book along.stays.payload _ stands.given.bodies; board = stands.given.board }; followed = steps_followed up down desk book along stands.followed }
+    record { tied = along.tied; good = good; claims = stands.claims; fits = stands.fits; open_farm = stands.open_farm; given = record { requests = stands.given.requests; bodies = bodies_stay desk.parts.book book along.stays.payload _ stands.given.bodies }; followed = steps_followed up down desk book along stands.followed }
 
 -- a load that was carried out
 load_stands : {U D : Type 0} (up : Kind U Frame) (down : Kind D Report) (stamp : Stamp) (old : DeskState U D) (parts : State U D) (book : Book)

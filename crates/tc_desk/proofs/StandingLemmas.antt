@@ -114,7 +114,7 @@ over_stands up down config book u d empty_up empty_down good = record {
   claims = λ clean. new_claims config u d;
   fits = (new_fits config u d).0;
   open_farm = (new_fits config u d).1;
-  given = record { came = []; requests = refl; bodies = tt; board = refl };
+  given = record { requests = refl; bodies = tt };
   followed = over_followed up down config book (length book.history) u d empty_up empty_down;
 }
 

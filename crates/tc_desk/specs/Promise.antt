@@ -1,5 +1,5 @@
 -- What is true of a desk at any moment. The first promise of README.md is the fields `places`, `moves` and `once` of `KeepsPromise`.
-use Rattle.std.specs.Prelude.{◌≡◌, ℕ, true, false, List, [], ◌∷◌, map, fold}
+use Rattle.std.specs.Prelude.{◌≡◌, ℕ, true, false, map}
 use Rattle.std.specs.List.{AllByRecursion}
 use Rattle.tc_types.specs.declared.link.reports.Report.{Report}
 use Rattle.tc_types.specs.declared.link.telecommands.Telecommand.{Telecommand}
@@ -9,7 +9,6 @@ use Rattle.tc_world.specs.Links.{Kind}
 use Rattle.tc_world.specs.Sublist.{IsSublist}
 use Rattle.tc_world.specs.Window.{Distinct, IsClaimed, all_accepted, all_confirmed}
 use Rattle.tc_world.specs.World.{all_sent}
-use Rattle.tc_board.specs.Board.{BoardState, accepted, clocked, new_board, worked}
 use Rattle.tc_book.specs.Conserved.{IsConserved}
 use Rattle.tc_desk.specs.Followed.{IsMirrored, IsTelecommandOf}
 use Rattle.tc_desk.specs.Rows.{confirm_rows, transmit_rows}
@@ -17,36 +16,13 @@ use Rattle.tc_desk.specs.State.{DeskState, State}
 
 -- ---- what the spacecraft was given
 
--- what comes to the rehearsal spacecraft: a telecommand that the FARM accepted, its own work, or its clock
-pub data Coming : Type 0 where
-  given : Telecommand → Coming
-  works : Coming
-  reaches : ℕ → Coming
-
--- the spacecraft after it
-abbrev pub board_with : BoardState → Coming → BoardState
-board_with board (given telecommand) = accepted telecommand board
-board_with board works = worked board board.buffer
-board_with board (reaches time) = clocked time board
-
--- the telecommands among these, in order
-abbrev pub telecommands_in : List Coming → List Telecommand
-telecommands_in [] = []
-telecommands_in (given telecommand ∷ others) = telecommand ∷ telecommands_in others
-telecommands_in (works ∷ others) = telecommands_in others
-telecommands_in (reaches time ∷ others) = telecommands_in others
-
 -- Since the desk was made the spacecraft was given the telecommand of each request that the FARM accepted, as often as it was accepted, in that
 -- order, and no other.
 pub record GivesAccepted {U D : Type 0} (at : State U D) : Type 0 where
-  -- all that came to the spacecraft
-  pub came : List Coming
-  -- the telecommands have the numbers of the requests that the FARM accepted
-  pub requests : map (λ (t : Telecommand). t.request) (telecommands_in came) ≡ all_accepted at.world
-  -- and each is the one that the book makes of that request
-  pub bodies : AllByRecursion (IsTelecommandOf at.book) (telecommands_in came)
-  -- the spacecraft is what all of it made of a new one
-  pub board : at.board ≡ fold board_with (new_board 0) came
+  -- what it was given has the numbers of the requests that the FARM accepted
+  pub requests : map (λ (t : Telecommand). t.request) at.board.given ≡ all_accepted at.world
+  -- and each is the telecommand that the book makes of that request
+  pub bodies : AllByRecursion (IsTelecommandOf at.book) at.board.given
 
 -- ---- what a row that says Confirmed means
 
