@@ -133,7 +133,7 @@ VERBS: dict[str, Optional[Slot]] = {
 LINE = one_moment(Slot(person, "a person, 1 to 16 of a-z and 0-9 and not desk", Slot(one_of(*VERBS), "an act, a question or a load", VERBS.get)))
 
 
-QUESTIONS = ("places", "history", "request", "link", "schedule", "log", "report", "waiting", "moves", "standing", "steps")
+QUESTIONS = ("places", "history", "request", "link", "schedule", "log", "report", "waiting", "urgent", "moves", "standing", "steps")
 
 
 # ---- what is told

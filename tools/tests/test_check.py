@@ -323,7 +323,7 @@ LOADS = b"0 ann stack a examples/stack.csv\n1 ann stack b bad.csv\n2 ann procedu
 
 
 # Lines that go back in time: each that is no question lies before one above it.
-BACK = b"200 ann tick\n100 ann tick\n# 50 ann tick\n150 ann places\n150 ann tick\n200 ann tick\n1000 ann tick\n999 ann tick\n"
+BACK = b"200 ann tick\n100 ann tick\n# 50 ann tick\n150 ann places\n150 ann tick\n200 ann tick\n1000 ann tick\n999 ann tick\n999 ann urgent 1\n"
 
 
 def script_texts() -> list[bytes]:

@@ -97,6 +97,7 @@ is_question (Some verb.Schedule) = true
 is_question (Some verb.Log) = true
 is_question (Some verb.Report) = true
 is_question (Some verb.Waiting) = true
+is_question (Some verb.Urgent) = true
 is_question (Some verb.Moves) = true
 is_question (Some verb.Standing) = true
 is_question (Some verb.Steps) = true

@@ -170,6 +170,7 @@ fn is_question(word: &[u8]) -> bool
                 | Verb::Log
                 | Verb::Report
                 | Verb::Waiting
+                | Verb::Urgent
                 | Verb::Moves
                 | Verb::Standing
                 | Verb::Steps
