@@ -5,14 +5,18 @@ number fails, or takes nothing: a front of the response went out, the act stands
 same. By fail_malloc.c each request for memory from the first connection on is refused, one a run, of a post, of a question behind it and of the post
 again: each response is right, or tells that there was no memory (30, and nothing has changed; or 31 where the database had none, and then 32), or is not
 there; an act that was answered stands, one that was refused 30 does not. By a limit on the size of files the database fails: 31, and from then on 32; where
-no count of connections is given, or it is asked for, the server ends then with status 3.
+no count of connections is given, or it is asked for, the server ends then with status 3. By fail_looks.c the system reports on the desk's file with an error, while the port
+is in use: the file stays as it was.
 After each run the same is sent again under its number, to a server that lacks nothing: it is answered as it would have been, and was done once in all.
 There is a line for each run that failed.
 """
+import errno
 import os
 import resource
 import shutil
 import signal
+import socket
+import subprocess
 import tempfile
 import time
 import unittest
@@ -25,7 +29,7 @@ from model.http import LARGE, NO_PATH, OTHER_METHOD, Refused, answer_to, reply_r
 from tests.asked import ASKED
 from tests.http_peer import FAIR, PATIENCE, SLOW, Ended, Expected, Fault, Late, Server, in_time, parted, received, run, send
 from tests.plain_runs import kept_tables
-from tests.runs import made_shim, quick_folder
+from tests.runs import bytes_of, made_shim, quick_folder
 
 MOST_BAD = 10
 MOST_BEHIND = 1000  # reads behind an answer
@@ -341,6 +345,36 @@ def disk(runs: Runs) -> None:
         once(runs, it, f"files of {size} bytes, and then longer ones")
 
 
+# ---- a file on which the system does not report
+
+def refused_port(runs: Runs, name: str, port: int, error: int) -> Ended:
+    """How a server ends on a desk's file, at a port that is in use, where each look at the file fails with this error; 0 for none."""
+    env = {**os.environ, "LD_PRELOAD": f"{runs.folder}/fail_looks.so", "LOOK_FILE": name, "LOOK_ERROR": str(error)}
+    done = subprocess.run([runs.program, "serve", name, str(port)], cwd=runs.folder, env=env, stdin=subprocess.DEVNULL, capture_output=True,
+                          timeout=PATIENCE, check=False)
+    return Ended(done.returncode, done.stdout.decode("ascii"), done.stderr.decode("ascii"))
+
+
+def looks(runs: Runs) -> None:
+    """At a port in use, a file on which the system does not report is told as one that cannot be used, and is left; only where it says that none is there is one made,
+    and removed."""
+    made_shim("fail_looks", runs.folder)
+    whole = bytes_of(f"{runs.folder}/left.db")
+    no_file, no_port = "tcdesk: cannot use {}\n", "tcdesk: cannot use port {}\n"
+    cases = [(errno.EIO, "left.db", no_file), (errno.EACCES, "left.db", no_file + "tcdesk: because there is no permission for it\n"), (0, "left.db", no_port),
+             (0, "none.db", no_port)]
+    with socket.socket() as taken:
+        taken.bind(("127.0.0.1", 0))
+        taken.listen()
+        port = int(taken.getsockname()[1])
+        for error, name, says in cases:
+            runs.counts["looks"] += 1
+            ended = refused_port(runs, name, port, error)
+            left = sorted(it for it in os.listdir(runs.folder) if it.startswith((name, "left.db")))
+            if ended != Ended(2, "", says.format(name if says != no_port else port)) or left != ["left.db"] or bytes_of(f"{runs.folder}/left.db") != whole:
+                runs.bad(f"a port in use, and the error {error} of {name}", ended, left)
+
+
 class HttpFaults(unittest.TestCase):
     """Faults of a server."""
 
@@ -355,7 +389,7 @@ class HttpFaults(unittest.TestCase):
         counts = self.runs.counts
         seen = ", ".join(f"{count} {name}" for name, count in sorted(self.runs.seen.items()))
         print(f"fail http: {counts['streams']} stream runs, {counts['memory']} memory runs ({seen}),"
-              f" {counts['disk']} of the disk, {counts['bad']} bad")
+              f" {counts['disk']} of the disk, {counts['looks']} of a port in use, {counts['bad']} bad")
         self.assertEqual(0, counts["bad"], "runs were bad")
 
     def test_streams(self) -> None:
@@ -370,3 +404,7 @@ class HttpFaults(unittest.TestCase):
         """A disk that is full."""
         disk(self.runs)
         stops(self.runs)
+
+    def test_looks(self) -> None:
+        """A file on which the system does not report."""
+        looks(self.runs)

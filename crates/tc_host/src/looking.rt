@@ -198,13 +198,18 @@ fn why_unkept(rt: &HostRuntime, file: &str) -> Option<Because> {
     }
 }
 
-/// What stands where this was found.
-pub(crate) fn standing_of(found: &fs::Metadata) -> Standing {
-    what_stands(Found {
+/// What a look at a path found there, as the system reports it.
+pub(crate) fn found_in(found: &fs::Metadata) -> Found {
+    Found {
         is_folder: found.is_dir(),
         is_file: found.is_file(),
         bytes: found.len(),
-    })
+    }
+}
+
+/// What stands where this was found.
+fn standing_of(found: &fs::Metadata) -> Standing {
+    what_stands(found_in(found))
 }
 
 /// Why the desk that a file keeps cannot be read.

@@ -1,8 +1,11 @@
 //! What stands at a path where a desk is to be, and why it is no file of one.
-ghost use Rattle.std.specs.Prelude.{◌≡◌};
+ghost use Rattle.std.specs.Prelude.{◌≡◌, ◌↔◌, Err};
+ghost use Rattle.std.specs.declared.io.ErrorKind.TheVariants as kind;
 ghost use Rattle.tc_host.specs.Standing.{what_stands, why_no_file};
 
 use crate::because::Because;
+use std::io;
+use tc_closed::ScriptFault;
 
 /// What a look at a path found there.
 #[derive(Clone, Copy)]
@@ -46,5 +49,31 @@ pub(crate) fn why_no_file(standing: Standing) -> Option<Because>
         Standing::Special => Some(Because::Special),
         Standing::Empty => Some(Because::Empty),
         Standing::Bytes => None,
+    }
+}
+
+/// How a path is tried where a desk is to be opened, so that it stays as it was.
+#[derive(Clone, Copy)]
+pub(crate) enum Trial {
+    /// A database is made there, and removed.
+    Make,
+    /// Nothing is done: a desk may be made in the empty file.
+    Leave,
+    /// The file is opened and judged.
+    Judge,
+    /// Nothing is done: the system does not report what stands there.
+    Fail(ScriptFault),
+}
+
+/// Returns how a path is tried where a look found this, or failed so. A file is made and removed exactly if the system says that none is there.
+pub(crate) fn trial_of(looked: Result<Found, io::ErrorKind>) -> Trial
+    ensures { (result ≡ Trial.Make) ↔ (looked ≡ Err kind.NotFound) }
+{
+    match looked {
+        Ok(found) if matches!(what_stands(found), Standing::Empty) => Trial::Leave,
+        Ok(_) => Trial::Judge,
+        Err(io::ErrorKind::NotFound) => Trial::Make,
+        Err(io::ErrorKind::OutOfMemory) => Trial::Fail(ScriptFault::Memory),
+        Err(_) => Trial::Fail(ScriptFault::Tables),
     }
 }

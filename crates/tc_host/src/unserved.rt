@@ -1,9 +1,9 @@
 //! What the opening of a desk that is kept in a file would be refused for, where nothing is to be written: its port is in use.
 
 use crate::files::open_database;
-use crate::looking::standing_of;
+use crate::looking::found_in;
 use crate::reporting::{find, forget_log, log_path, open_kept};
-use crate::standing::Standing;
+use crate::standing::{Trial, trial_of};
 use sqlite::{Alter, Connection};
 use sqlite_disk::Wary;
 use sqlite_schema::schema::Schema;
@@ -51,26 +51,38 @@ fn forget_made(rt: &HostRuntime, file: &str) -> Result<(), ScriptFault> {
     fs::remove_file(rt, real.as_str()).map_err(|_| ScriptFault::Tables)
 }
 
-/// Fails where no database can be made at a path where there is no file. None is left there.
+/// Fails if no database can be made at a path where no file is. None is left there, unless another program filled it meanwhile.
 fn judge_path(rt: &HostRuntime, file: &str) -> Result<(), ScriptFault> {
     let store = open_database(rt, file, Wary)?;
-    let forgotten = forget_made(rt, file);
+    let forgotten = if is_bare(store.schema()) {
+        forget_made(rt, file)
+    } else {
+        Ok(())
+    };
     drop(store);
     forgotten
 }
 
-/// Fails as the opening of the desk that a file keeps would. The file stays as it is.
+/// Fails as the opening of the desk in a file would. The file stays as it is.
+fn judge_file(rt: &HostRuntime, file: &str) -> Result<(), ScriptFault> {
+    let kept = find(rt, file)?;
+    let store = open_kept(rt, &kept)?;
+    let (judged, store) = judge(rt.alloc(), store);
+    forget_log(rt, &kept);
+    drop(store);
+    judged
+}
+
+/// Fails as the opening of the desk that a file keeps would. The file stays as it is; if the system does not report on it, that is the fault.
 pub fn opening_fault(rt: &HostRuntime, file: &str) -> Result<(), ScriptFault> {
-    match fs::metadata(rt, file) {
-        Err(_) => judge_path(rt, file),
-        Ok(found) if matches!(standing_of(&found), Standing::Empty) => Ok(()),
-        Ok(_) => {
-            let kept = find(rt, file)?;
-            let store = open_kept(rt, &kept)?;
-            let (judged, store) = judge(rt.alloc(), store);
-            forget_log(rt, &kept);
-            drop(store);
-            judged
-        }
+    let looked = match fs::metadata(rt, file) {
+        Ok(found) => Ok(found_in(&found)),
+        Err(error) => Err(error.kind()),
+    };
+    match trial_of(looked) {
+        Trial::Make => judge_path(rt, file),
+        Trial::Leave => Ok(()),
+        Trial::Judge => judge_file(rt, file),
+        Trial::Fail(fault) => Err(fault),
     }
 }
