@@ -61,7 +61,7 @@ def asked_so(number: object, by: str = "ann") -> Iterator[tuple[str, bytes]]:
     for text in ("enter 6 a--c no 8 1 - - ok", "withdraw 1", "withdraw 77", "clock 5", "tick", "x", "", LONG, "é" * 101, f"100 ann {ENTRY}",
                  "stack s1 two.csv"):
         yield f"the act {text[:20]!r}", act(text, by, number=number)
-    for text in ("places", "history 1 0", "history 77 0", "log 9", "waiting", "moves 0", "standing Entered 0", "steps none"):
+    for text in ("places", "history 1 0", "history 77 0", "log 9", "waiting", "urgent 1", "moves 0", "standing Entered 0", "steps none"):
         yield f"the question {text!r}", act(text, by, number=number)
     for moment in (0, 4102444799, 4102444800, -1, 0.5, 10**30):
         yield f"the moment {moment}", act(ENTRY, by, moment, number)
@@ -128,8 +128,8 @@ def questions() -> Iterator[Case]:
         ("ann", "places", 20, 0), ("ann", ENTRY, 20, 0), ("bob", "places", 20, 0), ("bob", "report 0 4102444799", 20, 0), ("bob", "link", 20, 0),
         ("bob", "schedule", 20, 0), ("bob", "tick", 20, 0), ("bob", "link", 20, 0),
         ("bob", "waiting", 20, 0), ("bob", "moves 1", 20, 0), ("bob", "standing Entered 0", 22, 0), ("bob", "steps none", 22, 16),
-        ("bob", "waiting", 22, 0), ("bob", ENTRY, 22, 0), ("bob", "waiting", 22, 0)])
-    for path, want in (("/places", 0), ("/requests/1", 0), ("/waiting", 0), ("/moves/1", 0), ("/procedures/none", 16)):
+        ("bob", "waiting", 22, 0), ("bob", "urgent 1", 22, 0), ("bob", ENTRY, 22, 0), ("bob", "urgent 1", 22, 0), ("bob", "waiting", 22, 0)])
+    for path, want in (("/places", 0), ("/requests/1", 0), ("/waiting", 0), ("/urgent/1", 0), ("/moves/1", 0), ("/procedures/none", 16)):
         yield Case(f"a question that is asked by a GET of {path}", get(path), want)
 
 

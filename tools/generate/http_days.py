@@ -18,7 +18,7 @@ REPEATS = 1 / 3  # of all posts
 RECENT = 40
 # Values that a post is spoilt with, of each key: the first of each are looked at behind the kept replies, the others before them.
 SPOILT: dict[str, list[Any]] = {
-    "act": [LONG, "", "x", "places", "link", "waiting", "moves 0", "withdraw 4294967296", 5, None], "csv": ["", "x", "\n" * 65537, 5, None], "name": ["No", "", "a" * 17, 5, None],
+    "act": [LONG, "", "x", "places", "link", "waiting", "urgent 1", "moves 0", "withdraw 4294967296", 5, None], "csv": ["", "x", "\n" * 65537, 5, None], "name": ["No", "", "a" * 17, 5, None],
     "moment": [-1, LAST_MOMENT + 1, 0.5, 1e3, "100", None], "number": [0, LAST_NUMBER + 1, 1.0, -1, "7", None], "by": ["desk", "No", "", 5, None]}
 
 
@@ -78,7 +78,7 @@ class PostedDay(Day):
         """A question by a GET, now and then of what is none."""
         number, rows = self.pick(Place.ENTERED, Place.APPROVED), len(self.book.history)
         after = self.dice.choice([0, rows, max(0, rows - MOST_SHOWN), max(0, rows - MOST_SHOWN - 1), LAST_NUMBER, LAST_NUMBER + 1, "x"])
-        self.answer(None, get(self.dice.choice(["/places", "/waiting", "/waiting", "/board", "/opening", f"/moves/{after}", f"/moves/{after}", f"/requests/{number}",
+        self.answer(None, get(self.dice.choice(["/places", "/waiting", "/waiting", f"/urgent/{self.dice.choice([0, 1, 1, 2, MOST_SHOWN + 1])}", "/board", "/opening", f"/moves/{after}", f"/moves/{after}", f"/requests/{number}",
                                                 f"/history/{number}/0", f"/procedures/{self.name(self.book.procedures)}"])))
 
     def load_many(self) -> None:

@@ -175,7 +175,7 @@ def texts_of_acts() -> Iterator[Case]:
             ("enter 05 a--c no 8 1 - - ok", 1), ("enter 2047 a--c no 8 1 - - ok", 0), ("enter 2048 a--c no 8 1 - - ok", 1),
             ("withdraw 4294967296", 1), ("withdraw 4294967295", 2),
             ("places", 0), ("link", 0), ("schedule", 0), ("history 1 0", 0), ("request 1", 0), ("log 1", 16), ("report 0 9", 0), ("places ", 1),
-            ("history 1", 1), ("report 9 4102444800", 1), ("waiting", 0), ("waiting 1", 1), ("moves 0", 0), ("moves", 1), ("standing Entered 0", 0),
+            ("history 1", 1), ("report 9 4102444800", 1), ("waiting", 0), ("waiting 1", 1), ("urgent 1", 0), ("urgent", 1), ("moves 0", 0), ("moves", 1), ("standing Entered 0", 0),
             ("standing entered 0", 1), ("standing Entered", 1), ("steps p1", 16), ("steps P1", 1), ("steps", 1)]:
         yield Case(f"the act {text[:30]!r} of {len(text.encode())} bytes", act(text), want)
     yield Case("a long act of a bad person at a bad moment", post("/acts", entry(act=LONG, by="desk", moment=-1)), 1)
@@ -251,13 +251,15 @@ def loads() -> Iterator[Case]:
 
 
 def waits() -> Iterator[Case]:
-    """More than 200 lines of what waits, which is cut as each reply is; and moves behind some of their numbers."""
+    """More than 200 lines of what waits, which is cut as each reply is; and moves behind some of their numbers, and pages of what is urgent."""
     for at in range(3):
         yield Case(f"the stack {at} of 99 rows", load("stack", f"w{at}", rows(99, apid=20 + at)), 0)
         yield Case(f"its approval {at}", act(f"approvestack w{at}", "bob"), 0)
         yield Case(f"what waits then, {at}", get("/waiting"), 0)
     for after in (0, 1, 199, 200, 400, 500, 4294967295):
         yield Case(f"the moves behind {after}", get(f"/moves/{after}"), 0)
+    for begin in (0, 1, 2, 50, 51, 4294967295):
+        yield Case(f"what is urgent from line {begin} on", get(f"/urgent/{begin}"), 0)
 
 
 # ---- acts
@@ -290,6 +292,7 @@ def acts() -> Iterator[Case]:
     yield Case("ann loads a procedure of that name", load("procedure", "s1", plan), 0)
     yield Case("its steps", get("/procedures/s1"), 0)
     yield Case("what waits for approval", get("/waiting"), 0)
+    yield Case("what is urgent", get("/urgent/1"), 0)
     yield Case("ann loads it again", load("procedure", "s1", plan), 9)
     for by, text, want in [
             ("bob", "approve 7", 13), ("ann", "approvestack s1", 5), ("bob", "approvestack s1", 0), ("bob", "approvestack s1", 6),

@@ -134,6 +134,10 @@ PATHS: Sequence[tuple[str, Want]] = [
     ("/boar", NO_PATH), ("//board", NO_PATH), ("board", NO_PATH),
     ("/opening", 0), ("/opening/", NO_PATH), ("/opening/1", NO_PATH), ("/opening?", NO_PATH), ("/opening?x=1", NO_PATH), ("/Opening", NO_PATH),
     ("/openings", NO_PATH), ("/openin", NO_PATH), ("/open", NO_PATH), ("//opening", NO_PATH), ("opening", NO_PATH), ("/opening#x", NO_PATH),
+    ("/urgent/0", 0), ("/urgent/1", 0), ("/urgent/2", 0), ("/urgent/51", 0), ("/urgent/4294967295", 0), ("/urgent/4294967296", 1), ("/urgent/" + "1" * 300, 1),
+    ("/urgent/00", 1), ("/urgent/01", 1), ("/urgent/-1", 1), ("/urgent/+1", 1), ("/urgent/1.0", 1), ("/urgent/one", 1), ("/urgent/%31", 1), ("/urgent/1?", 1),
+    ("/urgent/{from}", 1), ("/urgent/١", 1), ("/urgent", NO_PATH), ("/urgent/", NO_PATH), ("/urgent/1/", NO_PATH), ("/urgent/1/2", NO_PATH), ("/urgent//1", NO_PATH),
+    ("/Urgent/1", NO_PATH), ("/urgen/1", NO_PATH), ("/urgent1", NO_PATH),
     ("/moves/0", 0), ("/moves/1", 0), ("/moves/2", 0), ("/moves/4294967295", 0), ("/moves/4294967296", 1), ("/moves/" + "1" * 300, 1), ("/moves/00", 1),
     ("/moves/01", 1), ("/moves/-1", 1), ("/moves/+1", 1), ("/moves/1.0", 1), ("/moves/one", 1), ("/moves/%31", 1), ("/moves/1?", 1), ("/moves/{after}", 1),
     ("/moves/١", 1), ("/moves", NO_PATH), ("/moves/", NO_PATH), ("/moves/1/", NO_PATH), ("/moves/1/2", NO_PATH), ("/moves//1", NO_PATH),
@@ -156,7 +160,7 @@ def routes() -> Iterator[Case]:
 def methods() -> Iterator[Case]:
     """Methods that a path does not have, and that none has."""
     for method in "PUT POST DELETE HEAD OPTIONS PATCH TRACE CONNECT get Get GETT GE X !".split():
-        for path in ("/places", "/requests/1", "/requests/x", "/history/1/0", "/report/0/1", "/waiting", "/board", "/opening", "/moves/0", "/moves/x", "/procedures/p1",
+        for path in ("/places", "/requests/1", "/requests/x", "/history/1/0", "/report/0/1", "/waiting", "/board", "/opening", "/moves/0", "/moves/x", "/urgent/1", "/urgent/x", "/procedures/p1",
                      "/procedures/P1"):
             yield Case(f"{method} {path}", get(path).replace(b"GET", method.encode(), 1), OTHER_METHOD)
         yield Case(f"{method} /none", get("/none").replace(b"GET", method.encode(), 1), NO_PATH)

@@ -165,8 +165,8 @@ class Writer(Written):
         self.ask_of_desk()
 
     def ask_of_desk(self) -> None:
-        """What waits, who stands at each place, each procedure, and the moves page by page."""
-        for act in ["waiting", *(f"standing {it} 0" for it in PLACE_WORDS), *(f"steps {it}" for it in self.book.procedures)]:
+        """What waits and what is urgent, who stands at each place, each procedure, and the moves page by page."""
+        for act in ["waiting", "urgent 1", f"urgent {MOST_SHOWN + 1}", *(f"standing {it} 0" for it in PLACE_WORDS), *(f"steps {it}" for it in self.book.procedures)]:
             self.give(act)
         for after in range(0, len(self.book.history) + 1, MOST_SHOWN):
             self.give(f"moves {after}")
@@ -387,7 +387,8 @@ class Writer(Written):
         place = self.dice.choice(PLACE_WORDS) if self.dice.random() < 0.95 else self.dice.choice(["Nowhere", "entered", "ENTERED", "Enter", "-", "0"])
         after = self.dice.choice([0, 0, rows - 1, rows, rows + 1, rows - MOST_SHOWN, rows - MOST_SHOWN - 1, self.dice.randrange(rows + 1), LAST_NUMBER])
         behind = self.dice.choice([0, 0, count - 1, count, count - MOST_SHOWN, self.dice.randrange(count + 1), LAST_NUMBER])
-        return ["waiting", "waiting", f"moves {max(0, after)}", f"standing {place} {max(0, behind)}", f"steps {self.name(self.book.procedures)}"]
+        begin = self.dice.choice([1, 1, 1, 0, 2, MOST_SHOWN, MOST_SHOWN + 1, LAST_NUMBER])
+        return ["waiting", "waiting", f"urgent {begin}", f"urgent {begin}", f"moves {max(0, after)}", f"standing {place} {max(0, behind)}", f"steps {self.name(self.book.procedures)}"]
 
     def spell(self) -> None:
         """A line that was written before, with a fault in its spelling."""

@@ -190,6 +190,7 @@ MOVES = Case("moves", [(0, """\
 20 ann initiate none
 21 ann release 10
 22 ann close 10
+22 ann urgent 1
 """), (900, """\
 901 ann enter 5 as-- no 8 1 - - fail/20
 902 bob approve 11
@@ -200,6 +201,7 @@ MOVES = Case("moves", [(0, """\
 907 ann work
 908 eve down
 909 eve down
+909 eve urgent 2
 """)], 1, {
     "request": """\
 1|5|0|9|0|8|1|0|0|ok|ann||0|0|14
