@@ -14,6 +14,7 @@ use Rattle.tc_room.specs.Joined.{Standing, desk_in}
 use Rattle.tc_api.specs.Each.{Dealt, Deals, DealsAll, Grows, ServesEach}
 use Rattle.tc_api.specs.Kept.{ServesAll}
 use Rattle.tc_api.proofs.KeptLemmas.{all_keep}
+use Rattle.tc_api.proofs.OnceLemmas.{calls_once}
 
 grows_none : {T : Type 0} (b : Option (List T)) → Grows b b []
 grows_none None = tt
@@ -88,6 +89,7 @@ module _ {S : Type 0} (hosts : List (List ℕ)) (since : ℕ) (g : Ghosts S) whe
     told = grows_same old mid new so_far.dealt so_far.told waits;
     deals = so_far.deals;
     keeps = all_keep g start end so_far.reads promise (all_serve start end so_far.dealt so_far.reads so_far.deals);
+    once = calls_once g start so_far.reads;
   }
 
   pub ends_full : (had came : Option (List (List ℕ))) (old new : Option (List Dealt)) (start end : Standing S) → KeepsPromise either (desk_in start) → SoFar had came old new start end

@@ -232,7 +232,7 @@ all_promised : {S : Type 0} (g : Ghosts S) (start end : Standing S) (read : List
 all_promised {S} g start end [] promise same = subst (λ (s : Standing S). KeepsPromise either (desk_in s)) (sym same) promise
 all_promised g start end (read ∷ others) promise (next, one, later) = all_promised g next end others one.promise later
 
-all_held : {S : Type 0} (g : Ghosts S) (start end : Standing S) (read : List (Option Asked)) (replies : List KeptAnswer) → ServesAll g start read end → HoldsBook g start replies
+pub all_held : {S : Type 0} (g : Ghosts S) (start end : Standing S) (read : List (Option Asked)) (replies : List KeptAnswer) → ServesAll g start read end → HoldsBook g start replies
     → (after : List KeptAnswer) × KeepsAll replies after × HoldsBook g end after
 all_held {S} g start end [] replies same held = (replies, all_same replies, subst (λ (s : Standing S). HoldsBook g s replies) (sym same) held)
 all_held g start end (read ∷ others) replies (next, one, later) held =

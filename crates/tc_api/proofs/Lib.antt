@@ -1,5 +1,5 @@
 mod ExchangeLemmas
-mod KeptLemmas
+pub mod KeptLemmas
 mod LineLemmas
 mod OnceLemmas
 mod OneLemmas

@@ -25,13 +25,14 @@ use Rattle.tc_room.proofs.CallLemmas.{act_call_held, call_kept, keeps_with, load
 use Rattle.tc_api.specs.declared.endings.Ending.{Ending}
 use Rattle.tc_api.specs.declared.endings.Ending.TheVariants as ending
 use Rattle.tc_api.specs.Acts.{ActCall}
+use Rattle.tc_api.specs.Each.{CallsOnce}
 use Rattle.tc_api.specs.Endings.{is_done}
 use Rattle.tc_api.specs.Exchange.{response_by, response_to}
 use Rattle.tc_api.specs.Kept.{Called, FailsTables, GoesThrough, IsCallOf, IsDoneOnce, IsRepeated, IsTheSame, KeepsTables, OpensNext, Refused, RefusesAll, ServesOne, Stage, StopsWithNothing, exchange, opening}
 use Rattle.tc_api.specs.Loads.{JudgesLoadPost, LoadCall}
 use Rattle.tc_api.specs.Responses.{response_bytes}
 use Rattle.tc_api.specs.Serving.{EndsWith, FindsNoMemory, IsOutcome, Outcome, Serves, ServesActCall, ServesLoadCall, ServesText}
-use Rattle.tc_api.proofs.KeptLemmas.{act_call_goes, all_more, all_same, at_flag, by_flag, load_call_goes, not_both, read_keeps}
+use Rattle.tc_api.proofs.KeptLemmas.{act_call_goes, all_held, all_more, all_same, at_flag, by_flag, load_call_goes, not_both, read_keeps}
 
 -- what is known of a call that was answered
 record Seen {S : Type 0} (g : Ghosts S) (caller : Caller) (old : Standing S) (outcome : Outcome) (new : Standing S) : Type 0 where
@@ -301,3 +302,12 @@ module _ {S : Type 0} (g : Ghosts S) (caller : Caller) (start : Standing S) (rep
     | inl none ↦ absurd (let e : (let no : Bool = false in no) ≡ true = sym (ap (λ (o : Outcome). o.stands) none.0) ∙ stands in cc)
     | inr seen ↦ seen_once held called.clean called.kept stands seen
   ]
+
+-- ---- a list of exchanges
+
+-- what one of them accepted is done once
+pub calls_once : {S : Type 0} (g : Ghosts S) (start : Standing S) (reads : List (Option Asked)) → CallsOnce g start reads
+calls_once g start reads = record {
+  once = λ replies held before after last next caller first serves called among stands.
+      let mid = all_held g start last before replies serves held in done_once g caller last mid.0 first next mid.2 called stands;
+}

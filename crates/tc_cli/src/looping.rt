@@ -1,7 +1,11 @@
 //! The lines of a script, sent over HTTP (RFC 9112) to a desk that this program serves itself: each is posted by a connection of its own, taken, served,
 //! and its response read. All that is by one thread, so a request has to fit what the system holds for a connection that is not read yet: it has
 //! at most 201 bytes of an act.
-ghost use Rattle.std.specs.Prelude.{⊤};
+ghost use Rattle.std.specs.Prelude.{IfOk};
+ghost use Rattle.tc_world.specs.EitherLink.{either};
+ghost use Rattle.tc_desk.specs.Promise.{KeepsPromise};
+ghost use Rattle.tc_room.specs.Joined.{desk_in};
+ghost use Rattle.tc_cli.specs.Looping.{ServesLoop, ServesSome, serves_more, serves_none};
 
 use crate::serving::{ServiceFault, closed};
 use sqlite::Alter;
@@ -87,7 +91,9 @@ fn serve_client<S: Alter + Drop>(
     server: &Server,
     client: &TcpStream,
     room: &mut Room<S>,
-) -> Result<(), ServiceFault> {
+) -> Result<(), ServiceFault>
+    ensures { ServesSome S.Store room.old room.new }
+{
     let stream = taken(server, client).map_err(|error| fault_of(server.port, &error))?;
     let served = serve_one(
         alloc,
@@ -117,7 +123,9 @@ fn response_to<S: Alter + Drop>(
     server: &Server,
     room: &mut Room<S>,
     request: &[u8],
-) -> Result<Vec<u8>, ServiceFault> {
+) -> Result<Vec<u8>, ServiceFault>
+    ensures { ServesSome S.Store room.old room.new }
+{
     let client = sent(rt, server, request).map_err(|error| fault_of(server.port, &error))?;
     serve_client(rt.alloc(), server, &client, room)?;
     received(rt.alloc(), &client).map_err(|error| fault_of(server.port, &error))
@@ -125,10 +133,10 @@ fn response_to<S: Alter + Drop>(
 
 /// A client that sends the lines of a script to a server of the program's own, and writes what they are answered.
 #[derive(Drop)]
-struct HostClient<'rt, 'server, 'room, 'watch, 'script, 'writer, S: Alter + Drop, W: Write> {
+struct HostClient<'rt, 'server, 'watch, 'script, 'writer, S: Alter + Drop, W: Write> {
     rt: &'rt HostRuntime,
     server: &'server Server,
-    room: &'room mut Room<S>,
+    room: Room<S>,
     /// The name of the script.
     script: &'script str,
     watch: &'watch HostWatch<'script>,
@@ -137,7 +145,7 @@ struct HostClient<'rt, 'server, 'room, 'watch, 'script, 'writer, S: Alter + Drop
     last: Option<Moment>,
 }
 
-impl<S: Alter + Drop, W: Write> HostClient<'_, '_, '_, '_, '_, '_, S, W> {
+impl<S: Alter + Drop, W: Write> HostClient<'_, '_, '_, '_, '_, S, W> {
     /// Says that lines are left out of what a line was answered, if any are.
     fn say_left_out(&self, place: usize, more: u64) -> Result<(), ServiceFault> {
         if more > 0 {
@@ -149,18 +157,18 @@ impl<S: Alter + Drop, W: Write> HostClient<'_, '_, '_, '_, '_, '_, S, W> {
     }
 }
 
-impl<S: Alter + Drop, W: Write> Client for HostClient<'_, '_, '_, '_, '_, '_, S, W> {
+impl<S: Alter + Drop, W: Write> Client for HostClient<'_, '_, '_, '_, '_, S, W> {
     type Fault = ServiceFault;
 
-    // no contract can say what a socket gives
-    ghost did = { λ _ _ _. ⊤ };
+    // no contract can say what a socket gives: only that the room served exchanges
+    ghost did = { λ old _ new. ServesSome S.Store old.room new.room };
 
-    ghost nothing = { λ _. tt };
+    ghost nothing = { λ client. serves_none S.Store client.room };
 
-    ghost joined = { λ _ _ _ _ _ _ _. tt };
+    ghost joined = { λ one two three _ _ first then. serves_more S.Store one.room two.room three.room first then };
 
     fn send(&mut self, request: &[u8]) -> Result<Vec<u8>, ServiceFault> {
-        response_to(self.rt, self.server, self.room, request)
+        response_to(self.rt, self.server, &mut self.room, request)
     }
 
     fn say_used(&mut self, used: &[u64]) -> Result<(), ServiceFault> {
@@ -185,7 +193,7 @@ impl<S: Alter + Drop, W: Write> Client for HostClient<'_, '_, '_, '_, '_, '_, S,
             refusal: refusal_of(refusal),
             last: self.last,
         });
-        self.last = later(self.last, last_moment(self.room));
+        self.last = later(self.last, last_moment(&self.room));
         self.say_left_out(line.place, more)
     }
 
@@ -212,16 +220,26 @@ struct Script<'name, 'text, 'lines, 'watch> {
     watch: &'watch HostWatch<'name>,
 }
 
-/// Sends the lines, and at the end the question how many requests stand where, which has no number.
+/// Sends the lines to a server of this room, and at the end the question how many requests stand where, which has no number. Returns the room too.
 fn send_all<S: Alter + Drop, W: Write>(
     rt: &HostRuntime,
-    room: &mut Room<S>,
+    room: Room<S>,
     since: Moment,
     script: &Script<'_, '_, '_, '_>,
     writer: &mut Counted<W>,
-) -> Result<u8, ServiceFault> {
-    let server = listen(rt, since)?;
-    let last = latest_moment(room);
+) -> (Result<u8, ServiceFault>, Room<S>)
+    // README's promise is kept, however it ends
+    ensures promise { KeepsPromise either (desk_in result.1) }
+    // a loop that ends whole made exchanges, one after the other
+    ensures served { IfOk result.0 (λ _. ServesLoop S.Store room result.1) }
+{
+    // read for the proof alone, here and below: the promise is kept
+    let _begun = room.opened();
+    let server = match listen(rt, since) {
+        Ok(server) => server,
+        Err(fault) => return (Err(fault), room),
+    };
+    let last = latest_moment(&room);
     let mut client = HostClient {
         rt,
         server: &server,
@@ -231,14 +249,14 @@ fn send_all<S: Alter + Drop, W: Write>(
         writer,
         last,
     };
-    let refused = send_script(
-        rt.alloc(),
-        &mut client,
-        server.port,
-        script.lines,
-        script.only_new,
-    )?;
-    Ok(status_of(refused))
+    let (port, lines) = (server.port, script.lines);
+    let sent = send_script(rt.alloc(), &mut client, port, lines, script.only_new);
+    let HostClient { room, .. } = client;
+    let _ended = room.opened();
+    match sent {
+        Ok(refused) => (Ok(status_of(refused)), room),
+        Err(fault) => (Err(fault), room),
+    }
 }
 
 /// Says, if all is told, when a desk was opened that was worked before, and how many moves stood then. Its link is new since.
@@ -266,7 +284,7 @@ pub fn send_to_file<'a>(
     let store = open_desk(rt, file)?;
     let mut writer = Counted::new(io::writer(rt));
     match open_told(rt.alloc(), store, opening, &mut writer) {
-        Ok(mut room) => {
+        Ok(room) => {
             let watch = HostWatch::of_loop(rt, script, telling);
             watch.opened(opening.moment, latest_moment(&room));
             tell_new_link(rt, telling, opening.moment, room.opened());
@@ -276,7 +294,7 @@ pub fn send_to_file<'a>(
                 only_new: numbers.only_new,
                 watch: &watch,
             };
-            let ended = send_all(rt, &mut room, opening.moment, &script, &mut writer);
+            let (ended, room) = send_all(rt, room, opening.moment, &script, &mut writer);
             closed(room.into_connection(), ended)
         }
         Err(left) => closed(left.store, Err(ServiceFault::from(left.fault))),

@@ -74,10 +74,10 @@ module _ {D : Type 0} {h : disk.Ghosts D} where
       ⊎ ((room : Standing (FileStore D h)) × (moves : List Move) × (after : Standing (FileStore D h)) × OpensFiles config moment store moves room
       × StopsOpened over_files echo room moves fault lines gave gives old new after × (left ≡ after.tables) × KeepsPromise either (desk_in after))
 
-  -- The desk was not opened, nothing was written, and the database is as that leaves it; or the moves of its opening could not be written, and the
-  -- connection is the one of the room that was opened.
+  -- The desk was not opened, nothing was written, and the database is as that leaves it; or the moves of its opening could not be written. Then the
+  -- connection is the one of the room that was opened, and README's promise is kept there.
   abbrev pub StopsTold : configs.Config → ℕ → Held (FileStore D h) → ScriptFault → Option (List ℕ) → Option (List ℕ) → Held (FileStore D h) → Type 0
   StopsTold config moment store fault old new left =
       (IsUnopened config fault × Appends old new [] × StaysInFiles config moment store left)
       ⊎ ((room : Standing (FileStore D h)) × (moves : List Move) × (part : List ℕ) × OpensFiles config moment store moves room
-      × CutsOpening fault moves part × Appends old new part × (left ≡ room.tables))
+      × CutsOpening fault moves part × Appends old new part × (left ≡ room.tables) × KeepsPromise either (desk_in room))

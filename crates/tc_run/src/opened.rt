@@ -67,10 +67,14 @@ pub fn open_told<D: Disk + Drop, W: Write>(
             let OpenedRoom { room, moves } = opened;
             match tell_moves(alloc, &moves, writer) {
                 Ok(()) => Ok(room),
-                Err(fault) => Err(Unopened {
-                    fault,
-                    store: room.into_connection(),
-                }),
+                Err(fault) => {
+                    // read for the proof alone: the promise is kept
+                    let _opened = room.opened();
+                    Err(Unopened {
+                        fault,
+                        store: room.into_connection(),
+                    })
+                }
             }
         }
         Err((refusal, store)) => Err(Unopened {

@@ -11,6 +11,7 @@ returns g c = (
     response = search rules;
     exchange = fresh_exchange g.S.Store _ _ _ _ _ _ _ _ (rw c.new-reader.ensures.wrapped refl) c.new-reader.ensures.begun (rw c.new-writer.ensures.wrapped (search rules)) c.new-writer.ensures.begun c.serve_one-served.ensures.exchange;
     serves = c.serve_one-served.ensures.step.1;
+    kept = c.serve_one-served.ensures.kept;
     stopped = refl;
   },
 )
