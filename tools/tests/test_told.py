@@ -34,6 +34,12 @@ FILES = {
         "bob approve 3", "bob approvestack s1", "ann initiate none", "ann release 2", "ann initiate none", "ann set vs 3", "ann set k 255", "ann clock 50", "ann clock 40", "ann begin p1",
         "ann step 1 1 done -", "ann step 1 1 done ann", "ann begin p2", "ann log 2", "ann withdraw 3", "ann withdraw 3", "ann close 3")),
     "back.tc": "".join(f"{at} ann enter 5 ---c no 8 1 - - ok\n" for at in (200, 100, 150)),
+    "named.tc": "100 ann enter 5 a--c no 11 4 1;1 600;700 ok\n",
+    **{f"{name}.csv": f"{STACK}1,5,8,1,,,a--c,no,,ok\n2,5,11,4,1,{time},---c,no,,ok\n" for name, time in (
+        ("offset", "2031-01-01T10:00:00"), ("slashes", "01/01/2031 10:00"), ("year", "2100-01-01T00:00:00Z"), ("times", "2031-01-01T10:00:00Z;2031-01-01T11:00:00Z"))},
+    "eight.csv": STACK + "".join(f"{line},5,8,1,,,a--c,no,,ok\n" for line in range(1, 9))
+                 + "9,5,11,4,1;2;3;4;5;6;7;8," + ";".join(f"2031-01-01T10:0{at}:00Z" for at in range(7)) + ";2031-01-01,---c,no,,ok\n",
+    "quote.csv": f'{STACK}1,5,8,1,,,---c,no,,ok\n2,5,8,2,"x,,---c,no,,ok\n3,5,8,3,,,---c,no,,ok\n',
     "text.db": "no database" * 200,
     "empty.db": "",
 }
@@ -119,6 +125,18 @@ CAUSES = [
     (21, "16 UnknownProcedure: no execution has this number"),
     (23, "3 WrongPlace: only a request at Entered or Approved can be withdrawn"),
     (24, "3 WrongPlace: only a request at Confirmed, Riding, Scheduled, Accepted, Started or Doubtful can be closed"),
+]
+INSTANTS = "not instants of whole seconds from 1970 to 2099 with an offset, such as 2031-05-04T10:00:00Z, parted by ;"
+CHECKS = [
+    Case("check stack offset.csv", 1, f'line 2, field time: {INSTANTS}: "2031-01-01T10:00:00"\n', ""),
+    Case("check stack slashes.csv", 1, f'line 2, field time: {INSTANTS}: "01/01/2031 10:00"\n', ""),
+    Case("check stack year.csv", 1, f'line 2, field time: {INSTANTS}: "2100-01-01T00:00:00Z"\n', ""),
+    Case("check stack times.csv", 1, 'line 2, field time: not as many instants as targets, parted by ;: "2031-01-01T10:00:00Z;2031-01-01T11:00:00Z"\n', ""),
+    Case("check stack eight.csv", 1, f'line 9, field time: {INSTANTS}: "2031-01-01T10:00:00Z;2031-01-01T10:01:00Z;2031-01-01T10:02:00Z;2031-01-01T10:03:00Z;'
+         '2031-01-01T10:04:00Z;2031-01-01T10:05:00Z;2031-01-01T10:06:00Z;2031-01-01"\n', ""),
+    Case("check stack quote.csv", 1, "line 2: not 10 fields: 5, and a quote stays open to the end of the file\n", ""),
+    Case("check script named.tc", 1, 'line 1, word 9: a request that is named twice: "1;1"\n', ""),
+    Case("check script back.tc", 0, "ok\nline 2: at 100, before a line at 200\nline 3: at 150, before a line at 200\n", ""),
 ]
 AT = "tcdesk: --at is Unix seconds, 0 to 4102444799 (for now: $(date +%s)), or an instant such as 2031-05-04T10:00:00Z: "
 WORDS = [Case(f"{command} --at {word}", 2, "", f"{AT}{word}\n")
@@ -286,6 +304,10 @@ class Told(Tried):
         """Of a refusal that has several causes the one is told that the line has."""
         wanted = [f"causes.tc:{at}: refused {what}" for at, what in CAUSES]
         self.all_end([Case("run --verbose causes.tc", 1, None, lines_of(*wanted))])
+
+    def test_checks(self) -> None:
+        """What `check` tells is the fault that the file has, and the whole of what was found."""
+        self.all_end(CHECKS)
 
     def test_lines_that_go_back(self) -> None:
         """A line is told that lies before the latest move, and not before the last one alone."""

@@ -10,7 +10,8 @@ use Rattle.tc_api.specs.Kept.{KeepsRoom, ServesAll, ServesOne}
 abbrev pub ServesSome : {S : Type 0} → Ghosts S → Standing S → Standing S → Type 0
 ServesSome g old new = (reads : List (Option Asked)) × ServesAll g old reads new
 
--- A loop's exchanges, and what they leave of the room: the promise is kept, and tables that held the book hold it, with each reply that was kept, until the database failed.
+-- A loop's exchanges, and what they leave of the room: the promise is kept, and tables that held the book hold it, with each reply that was
+-- kept, until the database failed.
 pub record ServesLoop {S : Type 0} (g : Ghosts S) (start end : Standing S) : Type 0 where
   pub reads : List (Option Asked)
   pub serves : ServesAll g start reads end
@@ -22,7 +23,8 @@ pub record ServesLoop {S : Type 0} (g : Ghosts S) (start end : Standing S) : Typ
 pub serves_none : {S : Type 0} (g : Ghosts S) (room : Standing S) → ServesSome g room room
 serves_none g room = ([], refl)
 
-all_more : {S : Type 0} (g : Ghosts S) (start mid end : Standing S) (reads more : List (Option Asked)) → ServesAll g start reads mid → ServesAll g mid more end → ServesAll g start (reads ++ more) end
+all_more : {S : Type 0} (g : Ghosts S) (start mid end : Standing S) (reads more : List (Option Asked)) → ServesAll g start reads mid
+    → ServesAll g mid more end → ServesAll g start (reads ++ more) end
 all_more {S} g start mid end [] more same later = subst (λ (s : Standing S). ServesAll g s more end) same later
 all_more g start mid end (read ∷ reads) more (next, one, rest) later = (next, one, all_more g next mid end reads more rest later)
 
