@@ -2,3 +2,4 @@ pub mod AddedLemmas
 pub mod FrameAddedLemmas
 pub mod CltuAddedLemmas
 pub mod FaultLemmas
+pub mod FieldFaultLemmas

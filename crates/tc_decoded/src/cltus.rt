@@ -1,6 +1,6 @@
 //! The lines of CLTUs.
 ghost use Rattle.std.specs.Prelude.{◌≡◌, ◌+◌, ◌++◌, ◌≤◌, ◌<◌, OnOk, IfOk, length, false};
-ghost use Rattle.tc_octets.specs.Cltus.{received, searching};
+ghost use Rattle.tc_octets.specs.Cltus.{after, received, searching};
 ghost use Rattle.tc_decoded.specs.Added.{Added};
 ghost use Rattle.tc_decoded.specs.CltuLines.{CltuTold, CltusTold, EndedTold, InformationTold, StreamTold, cltu_rows, codeblocks_row, end_name, end_row, is_tail};
 ghost use Rattle.tc_decoded.specs.CltuLines.{mode_of, no_frame_rows, or_none, start_of};
@@ -136,15 +136,15 @@ fn tell_information<A: Allocator + Copy>(
     out: &mut Vec<Line, A>,
     at: u32,
     profile: &Profile,
-    mut information: Candidate,
+    information: &Candidate,
 ) -> Result<(), AllocError>
-    ensures { OnOk result (Added (InformationTold at profile.now information) out.old.items out.new.items) }
+    ensures { OnOk result (Added (InformationTold at profile.now information.now) out.old.items out.new.items) }
 {
-    information.derandomize(profile.tc.randomizer);
+    let plain = information.derandomized(profile.tc.randomizer);
     let place = Place::coded(at);
-    match information.frame() {
+    match plain.frame() {
         Some(frame) => tell_tc_frame(alloc, out, &place, profile, frame),
-        None => tell_no_frame(alloc, out, &place, information.octets()),
+        None => tell_no_frame(alloc, out, &place, plain.octets()),
     }
 }
 
@@ -155,10 +155,10 @@ fn tell_cltu<A: Allocator + Copy>(
     profile: &Profile,
     octets: &[u8],
     end: usize,
-    information: Candidate,
+    information: &Candidate,
 ) -> Result<(), AllocError>
     requires { end ≤ 65542 }
-    ensures { OnOk result (Added (CltuTold profile.now octets.now end information) out.old.items out.new.items) }
+    ensures { OnOk result (Added (CltuTold profile.now octets.now end information.now) out.old.items out.new.items) }
 {
     let number = information.len();
     let rows = cltu_rows(octets, end, number);
@@ -178,12 +178,12 @@ fn take<A: Allocator + Copy>(
     octet: u8,
 ) -> Result<(), AllocError>
     requires { end ≤ 65542 }
-    ensures lines { OnOk result (Added (EndedTold profile.now octets.now end (received reader.old.mode reader.old.place octet).ended)
+    ensures lines { OnOk result (Added (EndedTold profile.now octets.now end (received reader.old.mode reader.old.last.place octet).ended)
         out.old.items out.new.items) }
-    ensures place { reader.new.place ≡ (received reader.old.mode reader.old.place octet).place }
-    ensures mode { reader.new.mode ≡ reader.old.mode }
+    ensures taken { reader.new ≡ after reader.old octet }
 {
-    match reader.octet(octet) {
+    reader.octet(octet);
+    match reader.information() {
         Some(information) => tell_cltu(alloc, out, profile, octets, end, information),
         None => Ok(()),
     }

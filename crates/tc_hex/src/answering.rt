@@ -1,8 +1,9 @@
 //! The answers of lines that are read one after the other.
-ghost use Rattle.std.specs.Prelude.{◌≡◌, ◌<◌, ◌&&◌, ◌++◌, Bool, [], ℕ, List, Some, if◌then◌else◌, IfOk, IfSome, OnOk, length, true, false};
+ghost use Rattle.std.specs.Prelude.{◌≡◌, ◌≢◌, ◌<◌, ◌&&◌, ◌++◌, Bool, [], ℕ, List, Option, Some, if◌then◌else◌, IfErr, IfOk, IfSome, OnOk, length, true, false};
 ghost use Rattle.std.specs.Io.BufRead.{drop_through, take_through};
 ghost use Rattle.std.specs.Io.KnownBytes.{Appends};
 ghost use Rattle.tc_hex.specs.Answers.{AnsweredFrom, Answers, separator, without_end};
+ghost use Rattle.tc_hex.specs.declared.answering.AnswerFault.TheVariants.{Input as UnreadInput, Output as UnwrittenOutput};
 
 use crate::answers::answer_text;
 use std::alloc::{AllocError, Global};
@@ -13,7 +14,7 @@ use tc_octets::Profile;
 /// Why lines were not answered to their end.
 #[derive(Clone, Copy, Debug, PartialEq, Eq)]
 pub enum AnswerFault {
-    /// A line could not be read. Those before it were answered.
+    /// A line could not be read. All lines before it were answered.
     Input,
     /// An answer could not be written.
     Output,
@@ -73,7 +74,8 @@ fn without_end(line: &[u8]) -> &[u8]
 
 /// Writes all of a text.
 fn put<W: Write>(writer: &mut W, text: &[u8]) -> Result<(), AnswerFault>
-    ensures { OnOk result (Appends (W.contents writer.old) (W.contents writer.new) text.now) }
+    ensures text { OnOk result (Appends (W.contents writer.old) (W.contents writer.new) text.now) }
+    ensures fault { IfErr result (λ fault. fault ≡ UnwrittenOutput) }
 {
     match writer.write_all(text) {
         Ok(()) => Ok(()),
@@ -89,7 +91,9 @@ fn put_answer<W: Write>(
     text: &[u8],
     writer: &mut W,
 ) -> Result<bool, AnswerFault>
-    ensures { IfOk result (λ is_whole. (answer : List ℕ) × Answers profile.now layer text.now answer is_whole × Appends (W.contents writer.old) (W.contents writer.new) answer) }
+    ensures answer { IfOk result (λ is_whole. (answer : List ℕ) × Answers profile.now layer text.now answer is_whole
+        × Appends (W.contents writer.old) (W.contents writer.new) answer) }
+    ensures fault { IfErr result (λ fault. fault ≢ UnreadInput) }
 {
     let answer = answer_text(alloc, profile, layer, text)?;
     put(writer, answer.text.as_bytes())?;
@@ -119,14 +123,15 @@ fn put_next<W: Write>(
     line: &[u8],
     writer: &mut W,
 ) -> Result<bool, AnswerFault>
-    ensures { IfOk result (λ is_whole. (answer : List ℕ) × Answers profile.now layer (without_end line.now) answer is_whole
+    ensures answer { IfOk result (λ is_whole. (answer : List ℕ) × Answers profile.now layer (without_end line.now) answer is_whole
         × Appends (W.contents writer.old) (W.contents writer.new) (separator is_later ++ answer)) }
+    ensures fault { IfErr result (λ fault. fault ≢ UnreadInput) }
 {
     put(writer, separator(is_later).as_bytes())?;
     put_answer(alloc, profile, layer, without_end(line), writer)
 }
 
-/// Writes the answer of a text. Gives the exit status: 0 if its octets were read whole, else 1.
+/// Writes the answer of a text. Gives the exit status: 0 if its octets were read whole, else 1. Fails with `Output` or `Memory`.
 pub fn write_answer<W: Write>(
     alloc: Global,
     profile: &Profile,
@@ -134,15 +139,16 @@ pub fn write_answer<W: Write>(
     text: &[u8],
     writer: &mut W,
 ) -> Result<u8, AnswerFault>
-    ensures { IfOk result (λ status. (answer : List ℕ) × (is_whole : Bool) × Answers profile.now layer text.now answer is_whole
+    ensures answer { IfOk result (λ status. (answer : List ℕ) × (is_whole : Bool) × Answers profile.now layer text.now answer is_whole
         × Appends (W.contents writer.old) (W.contents writer.new) answer × (status ≡ (if is_whole then 0 else 1))) }
+    ensures fault { IfErr result (λ fault. fault ≢ UnreadInput) }
 {
     let is_whole = put_answer(alloc, profile, layer, text, writer)?;
     Ok(status_of(is_whole))
 }
 
 /// Writes the answers of all lines of an input in turn, with an empty line between two. Gives the exit status: 0 if the octets of each were read whole,
-/// else 1.
+/// else 1. Fails with `Input` only if the answers of all lines that were read stand whole in the output.
 pub fn write_answers<R: BufRead, W: Write>(
     alloc: Global,
     profile: &Profile,
@@ -150,9 +156,11 @@ pub fn write_answers<R: BufRead, W: Write>(
     reader: &mut R,
     writer: &mut W,
 ) -> Result<u8, AnswerFault>
-    ensures { IfOk result (λ status. (count : ℕ) × (are_whole : Bool) × IfSome (R.remaining reader.old) (λ _. R.remaining reader.new ≡ Some [])
+    ensures answers { IfOk result (λ status. (count : ℕ) × (are_whole : Bool) × IfSome (R.remaining reader.old) (λ _. R.remaining reader.new ≡ Some [])
         × AnsweredFrom profile.now layer (R.remaining reader.old) (R.remaining reader.new) (W.contents writer.old) (W.contents writer.new) count are_whole
         × (status ≡ (if are_whole then 0 else 1))) }
+    ensures fault { IfErr result (λ fault. fault ≡ UnreadInput → (left : Option (List ℕ)) × (count : ℕ) × (are_whole : Bool)
+        × AnsweredFrom profile.now layer (R.remaining reader.old) left (W.contents writer.old) (W.contents writer.new) count are_whole) }
 {
     let mut line = Vec::new(alloc);
     let mut are_whole = true;

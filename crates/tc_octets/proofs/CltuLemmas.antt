@@ -1,12 +1,13 @@
 -- CLTUs: one codeblock more, and where a receiver is after an octet.
 use Rattle.std.proofs.Common.{◌≡◌, ℕ, suc, ◌+◌, ◌-◌, ◌*◌, ◌<◌, ◌≤◌, Bool, true, false, List, [], ◌∷◌, ◌++◌, take, drop, length}
-use Rattle.std.proofs.Common.{None, refl, sym, ap, ◌∙◌, arith}
+use Rattle.std.proofs.Common.{Some, None, refl, sym, ap, ◌∙◌, subst, arith}
 use Rattle.std.specs.Prelude.{◌==◌, ◌&&◌}
 use Rattle.std.specs.List.{fold}
 use Rattle.std.proofs.lemmas.Bool.{cond_below, cond_above, cond_both}
 use Rattle.std.proofs.lemmas.List.{append_assoc, append-nil, drop-drop, length-append, length-take}
 use Rattle.tc_octets.specs.Codeblocks.{codeblock_of, error_control_of, sent_of}
 use Rattle.tc_octets.specs.Cltus.{Place, searching, within, come, waits, kept, after_block, codeblock_in, whole_block, place_of, codeblocks_of}
+use Rattle.tc_octets.specs.Cltus.{Found, HasNone, found_of, keeping, still}
 use Rattle.tc_octets.specs.declared.codeblocks.Mode.{Mode}
 
 -- one codeblock more is put
@@ -69,6 +70,12 @@ kept_all place (octet ∷ octets) = omega (arith, kept_all (come place octet) oc
 pub kept_looked : (octets : List ℕ) → kept (fold come (searching false) octets) ≡ 0
 kept_looked octets = omega (arith, kept_all (searching false) octets)
 
+-- a place where no information is kept
+bare : (place : Place) → kept place ≡ 0 → keeping [] place ≡ place
+bare (searching begun) e = refl
+bare (within [] waiting) e = refl
+bare (within (octet ∷ octets) waiting) e = absurd (omega arith)
+
 -- fewer than eight octets are no block
 pub too_few : (mode : Mode) (place : Place) → waits place < 8 → whole_block mode place ≡ record { place = place; ended = None }
 too_few mode (searching begun) h = refl
@@ -86,18 +93,60 @@ read_below mode information block h = sym (cond_below (length information) 1029 
 pub unread_above : (mode : Mode) (information block : List ℕ) → 1029 ≤ length information → codeblock_in mode information block ≡ None
 unread_above mode information block h = sym (cond_above (length information) 1029 _ _ _ h refl)
 
--- ---- a place by its parts
+-- ---- a place by its parts, and the information beside it
 
 -- where octets wait, the receiver is within a CLTU
-pub inside_there : (inside begun : Bool) (information waiting : List ℕ) → waits (place_of inside begun information waiting) ≡ 8 → inside ≡ true
-inside_there true begun information waiting e = refl
-inside_there false begun information waiting e = absurd (omega arith)
+pub block_waits : (inside begun : Bool) (waiting : List ℕ) → waits (place_of inside begun waiting) ≡ 8 → length waiting ≡ 8
+block_waits true begun waiting e = e
+block_waits false begun waiting e = absurd (omega arith)
 
-pub block_waits : (inside begun : Bool) (information waiting : List ℕ) → waits (place_of inside begun information waiting) ≡ 8 → length waiting ≡ 8
-block_waits true begun information waiting e = e
-block_waits false begun information waiting e = absurd (omega arith)
+pub block_within : (inside begun : Bool) (waiting : List ℕ) → waits (place_of inside begun waiting) ≡ 8
+    → place_of inside begun waiting ≡ within [] waiting
+block_within true begun waiting e = refl
+block_within false begun waiting e = absurd (omega arith)
 
-pub block_is : (mode : Mode) (inside begun : Bool) (information waiting : List ℕ) → waits (place_of inside begun information waiting) ≡ 8
-    → whole_block mode (place_of inside begun information waiting) ≡ after_block information waiting (codeblock_in mode information waiting)
-block_is mode true begun information waiting e = block_there mode information waiting e
-block_is mode false begun information waiting e = absurd (omega arith)
+pub waits_keeping : (information : List ℕ) (place : Place) → waits (keeping information place) ≡ waits place
+waits_keeping information (searching begun) = refl
+waits_keeping information (within none waiting) = refl
+
+-- an octet comes, and the information stays
+pub come_keeping : (information : List ℕ) (place : Place) (octet : ℕ) → HasNone place information
+    → come (keeping information place) octet ≡ keeping information (come place octet)
+come_keeping information (searching begun) octet none =
+    cond_both (begun && (octet == 0x90)) (within [] []) (searching (octet == 0xeb))
+    (λ p. p ≡ keeping information p) (λ e. ap (λ l. within l []) (sym none)) (λ e. refl)
+come_keeping information (within before waiting) octet none = refl
+
+pub none_come : (information : List ℕ) (place : Place) (octet : ℕ) → HasNone place information → HasNone (come place octet) information
+none_come information (searching begun) octet none =
+    cond_both (begun && (octet == 0x90)) (within [] []) (searching (octet == 0xeb)) (λ p. HasNone p information) (λ e. tt) (λ e. none)
+none_come information (within before waiting) octet none = tt
+
+pub none_kept : (place : Place) → HasNone place []
+none_kept (searching begun) = refl
+none_kept (within before waiting) = tt
+
+pub few_kept : (ended : Bool) (information : List ℕ) (place : Place) → length information ≤ 1029
+    → kept (keeping (still ended information) place) ≤ 1029
+few_kept ended information (searching begun) few = omega arith
+few_kept true information (within before waiting) few = omega arith
+few_kept false information (within before waiting) few = few
+
+-- no block is whole yet
+pub none_found : (mode : Mode) (information : List ℕ) (place : Place) → waits place < 8
+    → found_of false information place ≡ whole_block mode (keeping information place)
+none_found mode information place few =
+    sym (too_few mode (keeping information place) (subst (λ (n : ℕ). n < 8) (sym (waits_keeping information place)) few))
+
+-- a codeblock
+pub block_found : (mode : Mode) (information block codeblock : List ℕ) → length block ≡ 8 → codeblock_in mode information block ≡ Some codeblock
+    → found_of false (information ++ take 7 codeblock) (within [] []) ≡ whole_block mode (keeping information (within [] block))
+block_found mode information block codeblock long e =
+    sym (block_there mode information block long ∙ ap (after_block information block) e)
+
+-- a block that ends the CLTU
+pub end_found : (mode : Mode) (information block : List ℕ) → length block ≡ 8 → codeblock_in mode information block ≡ None
+    → found_of true information (fold come (searching false) block) ≡ whole_block mode (keeping information (within [] block))
+end_found mode information block long e =
+    ap (λ p. record { place = p; ended = Some information }) (bare (fold come (searching false) block) (kept_looked block))
+    ∙ sym (block_there mode information block long ∙ ap (after_block information block) e)

@@ -1,6 +1,6 @@
 -- CLTUs (CCSDS 231.0-B), as they are sent and as they are found.
 use Rattle.std.specs.Prelude.{◌≡◌, ℕ, zero, suc, ◌+◌, ◌/◌, ◌%◌, ◌^◌, ◌-◌, ◌≤◌, ◌==◌, nat_lt, if◌then◌else◌, ◌&&◌, Bool, false, List, []}
-use Rattle.std.specs.Prelude.{◌∷◌, ◌++◌, length, take, drop, replicate, Option, Some, None}
+use Rattle.std.specs.Prelude.{◌∷◌, ◌++◌, length, take, drop, replicate, Option, Some, None, ⊤}
 use Rattle.std.specs.List.{fold}
 use Rattle.tc_octets.specs.Bits.{pair_at}
 use Rattle.tc_octets.specs.Codeblocks.{codeblock_of, sent_of}
@@ -81,22 +81,22 @@ whole_block mode (within information waiting) =
 unfoldable pub received : Mode → Place → ℕ → Found
 received mode place octet = whole_block mode (come place octet)
 
--- what a call says of where the receiver is, and of what ended
-pub record Takes (next : Found) (place : Place) (ended : Option (List ℕ)) : Type 0 where
-  pub place_is : place ≡ next.place
-  pub ended_is : ended ≡ next.ended
-
--- a receiver, and one that has seen nothing
+-- a receiver, and what its last octet brought
 pub record Receiver : Type 0 where
   pub mode : Mode
-  pub place : Place
+  pub last : Found
 
+-- a receiver that has seen nothing
 abbrev pub fresh : Mode → Receiver
-fresh mode = record { mode = mode; place = searching false }
+fresh mode = record { mode = mode; last = record { place = searching false; ended = None } }
 
--- a place by its parts
-abbrev pub place_of : Bool → Bool → List ℕ → List ℕ → Place
-place_of inside begun information waiting = if inside then within information waiting else searching begun
+-- the next octet comes
+abbrev pub after : Receiver → ℕ → Receiver
+after receiver octet = record { mode = receiver.mode; last = received receiver.mode receiver.last.place octet }
+
+-- a place by its parts, with no information
+abbrev pub place_of : Bool → Bool → List ℕ → Place
+place_of inside begun waiting = if inside then within [] waiting else searching begun
 
 -- how many octets of the next block have come
 abbrev pub waits : Place → ℕ
@@ -107,6 +107,24 @@ waits (within information waiting) = length waiting
 abbrev pub kept : Place → ℕ
 kept (searching begun) = 0
 kept (within information waiting) = length information
+
+-- a place with this information of the codeblocks so far
+abbrev pub keeping : List ℕ → Place → Place
+keeping information (searching begun) = searching begun
+keeping information (within none waiting) = within information waiting
+
+-- information that is still kept once a CLTU may have ended
+abbrev pub still : Bool → List ℕ → List ℕ
+still ended information = if ended then [] else information
+
+-- where a receiver is, and what the last octet brought: the information is that of the CLTU that ended with it, or that of the CLTU so far
+abbrev pub found_of : Bool → List ℕ → Place → Found
+found_of ended information place = record { place = keeping (still ended information) place; ended = if ended then Some information else None }
+
+-- no information is kept if a start sequence is looked for
+abbrev pub HasNone : Place → List ℕ → Type 0
+HasNone (searching begun) information = information ≡ []
+HasNone (within none waiting) information = ⊤
 
 -- ---- the frame in what a CLTU had
 

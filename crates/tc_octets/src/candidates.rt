@@ -1,7 +1,7 @@
 //! The information of a CLTU, and the octets of its next block.
 ghost use Rattle.std.specs.Prelude.{◌≡◌, ◌++◌, ◌∷◌, [], ◌<◌, ◌≤◌, ◌+◌, length};
 ghost use Rattle.std.specs.Option.{MatchOption};
-ghost use Rattle.tc_octets.specs.Cltus.{HasFrame, IsFrameIn, turned_by};
+ghost use Rattle.tc_octets.specs.Cltus.{HasFrame, IsFrameIn, still, turned_by};
 
 use crate::codeblocks::INFORMATION;
 use crate::randomizers::randomize;
@@ -66,13 +66,25 @@ impl Candidate {
         self.count = end;
     }
 
-    /// Undoes the randomizer, where the frames of the link are randomized (CCSDS 231.0-B).
-    pub fn derandomize(&mut self, randomizer: bool)
-        ensures { self.new ≡ turned_by randomizer self.old }
+    /// Lets the octets go if their CLTU ended.
+    pub(crate) fn begin(&mut self, ended: bool)
+        ensures { self.new ≡ still ended self.old }
     {
-        if randomizer {
-            randomize(&mut self.octets[..self.count]);
+        if ended {
+            self.count = 0;
         }
+    }
+
+    /// Returns a copy with the randomizer undone if the frames of the link are randomized (CCSDS 231.0-B).
+    pub fn derandomized(&self, randomizer: bool) -> Candidate
+        ensures { result ≡ turned_by randomizer self.now }
+    {
+        let count = self.count;
+        let mut octets = self.octets;
+        if randomizer {
+            randomize(&mut octets[..count]);
+        }
+        Candidate { octets, count }
     }
 
     /// The frame at the front of the octets: as many as its frame length field says (CCSDS 232.0-B, 4.1.2.7), with 0 to 6 octets of fill after it.

@@ -1,12 +1,12 @@
 //! The receiver of CLTUs, a machine of one octet at a time.
-ghost use Rattle.std.specs.Prelude.{◌≡◌, ◌<◌, ◌≤◌, [], false, length, IfSome};
+ghost use Rattle.std.specs.Prelude.{◌≡◌, ◌<◌, ◌≤◌, ◌%◌, [], Some, None, false, length, IfSome};
 ghost use Rattle.std.specs.List.{fold};
-ghost use Rattle.tc_octets.specs.Cltus.{Takes, codeblock_in, come, fresh, kept, received, searching, waits, whole_block, within};
+ghost use Rattle.std.specs.Option.{MatchOption};
+ghost use Rattle.tc_octets.specs.Cltus.{HasNone, after, codeblock_in, come, found_of, fresh, keeping, kept, searching, still, waits, whole_block, within};
 
 use crate::candidates::{Candidate, MOST_INFORMATION, Waiting};
 use crate::codeblocks::{CODEBLOCK, INFORMATION, Mode, sent};
 use std::marker::Model;
-use std::mem;
 
 /// The first octet of a start sequence.
 const FIRST: u8 = 0xeb;
@@ -15,24 +15,20 @@ const FIRST: u8 = 0xeb;
 const SECOND: u8 = 0x90;
 
 /// Where a receiver is: it looks for a start sequence, of which the first octet may just have come; or it is within a CLTU. A contract sees it as a
-/// `Place`.
+/// `Place` without information.
 #[derive(Drop)]
 struct Spot {
     inside: bool,
     begun: bool,
-    information: Candidate,
     waiting: Waiting,
 }
 
 impl Model for Spot {
-    ghost use Rattle.std.specs.Prelude.{◌≡◌, ◌%◌, length};
     ghost use Rattle.tc_octets.specs.Cltus.{Place, place_of};
 
     ghost Value = { Place };
 
-    ghost view = { λ spot. place_of spot.inside spot.begun spot.information spot.waiting };
-
-    ghost invariant = { λ spot. length spot.information % 7 ≡ 0 };
+    ghost view = { λ spot. place_of spot.inside spot.begun spot.waiting };
 }
 
 impl Spot {
@@ -43,19 +39,17 @@ impl Spot {
         Spot {
             inside: false,
             begun: false,
-            information: Candidate::new(),
             waiting: Waiting::new(),
         }
     }
 
-    /// Where a receiver is after a start sequence.
+    /// Where a receiver is after a start sequence or a codeblock.
     fn within() -> Spot
         ensures { result ≡ within [] [] }
     {
         Spot {
             inside: true,
             begun: false,
-            information: Candidate::new(),
             waiting: Waiting::new(),
         }
     }
@@ -74,34 +68,24 @@ impl Spot {
         }
     }
 
-    /// How many octets of the next block have come.
+    /// Returns how many octets of the next block have come.
     fn waits(&self) -> usize
         ensures { result ≡ waits self.now }
     {
         if self.inside { self.waiting.len() } else { 0 }
     }
 
-    /// Takes the block whose octets have all come. `Some` where it ends the CLTU: the information before it.
-    #[tactic(auto, using(crate::proofs::CltuLemmas::inside_there, crate::proofs::CltuLemmas::block_waits, crate::proofs::CltuLemmas::block_is))]
-    fn take_block(&mut self, mode: Mode) -> Option<Candidate>
-        requires { waits self.old ≡ 8 }
-        ensures taken { Takes (whole_block mode self.old) self.new result }
-        ensures few { waits self.new < 8 }
-        ensures bound { kept self.new ≤ 1029 }
+    /// Returns the block whose octets have all come.
+    #[tactic(auto, using(crate::proofs::CltuLemmas::block_waits, crate::proofs::CltuLemmas::block_there))]
+    fn block(&self) -> [u8; 8]
+        requires { waits self.now ≡ 8 }
+        ensures { self.now ≡ within [] result }
     {
-        let block = self.waiting.block();
-        if let Some(codeblock) = codeblock(&self.information, &block, mode) {
-            self.information.add(&codeblock[..INFORMATION]);
-            self.waiting = Waiting::new();
-            return None;
-        }
-        let ended = mem::replace(&mut self.information, Candidate::new());
-        *self = looked_through(&block);
-        Some(ended)
+        self.waiting.block()
     }
 }
 
-/// The codeblock that the next block of a CLTU reads as. `None` where it reads as none, and where 147 came before it.
+/// Returns the codeblock that the next block of a CLTU reads as. `None` if it reads as none, or if 147 came before it.
 fn codeblock(information: &Candidate, block: &[u8; 8], mode: Mode) -> Option<[u8; 8]>
     ensures value { result ≡ codeblock_in mode information.now block.now }
     ensures room { IfSome result (λ _. length information.now < 1029) }
@@ -112,12 +96,11 @@ fn codeblock(information: &Candidate, block: &[u8; 8], mode: Mode) -> Option<[u8
     None
 }
 
-/// Where a receiver is that looked for a start sequence from the first octet of a block that failed to its last.
-#[tactic(auto, using(crate::proofs::CltuLemmas::looked_few, crate::proofs::CltuLemmas::kept_looked))]
+/// Returns where a receiver is that looked for a start sequence from the first octet of a block that failed to its last.
+#[tactic(auto, using(crate::proofs::CltuLemmas::looked_few))]
 fn looked_through(block: &[u8; 8]) -> Spot
     ensures place { result ≡ fold come (searching false) block.now }
     ensures few { waits result < 8 }
-    ensures none { kept result ≡ 0 }
 {
     let mut spot = Spot::new();
     for octet in block {
@@ -126,49 +109,86 @@ fn looked_through(block: &[u8; 8]) -> Spot
     spot
 }
 
+/// Takes the next block if its octets have all come. True if it ends the CLTU, whose information then stays as it is.
+#[tactic(auto, using(crate::proofs::CltuLemmas::block_found, crate::proofs::CltuLemmas::end_found, crate::proofs::CltuLemmas::none_found))]
+fn take_block(mode: Mode, spot: &mut Spot, information: &mut Candidate) -> bool
+    requires waits { waits spot.old ≤ 8 }
+    requires none { HasNone spot.old information.old }
+    requires sevens { length information.old % 7 ≡ 0 }
+    requires bound { length information.old ≤ 1029 }
+    ensures taken { found_of result information.new spot.new ≡ whole_block mode (keeping information.old spot.old) }
+    ensures few { waits spot.new < 8 }
+    ensures none { HasNone spot.new (still result information.new) }
+    ensures sevens { length information.new % 7 ≡ 0 }
+    ensures bound { length information.new ≤ 1029 }
+{
+    if spot.waits() < CODEBLOCK {
+        return false;
+    }
+    let block = spot.block();
+    if let Some(codeblock) = codeblock(information, &block, mode) {
+        information.add(&codeblock[..INFORMATION]);
+        *spot = Spot::within();
+        return false;
+    }
+    *spot = looked_through(&block);
+    true
+}
+
 /// The receiver of CLTUs (CCSDS 231.0-B). It is given the octets that come, one after the other, in whatever pieces. It keeps the information of one
-/// CLTU and up to 7 octets more, and takes no memory. A contract sees its mode and its place.
+/// CLTU and up to 7 octets more, and takes no memory. A contract sees its mode, its place and what the last octet brought.
 #[derive(Drop)]
 pub struct CltuReader {
     mode: Mode,
     spot: Spot,
+    information: Candidate,
+    ended: bool,
 }
 
 impl Model for CltuReader {
-    ghost use Rattle.std.specs.Prelude.{◌<◌, ◌≤◌};
-    ghost use Rattle.tc_octets.specs.Cltus.{Receiver, kept, waits};
+    ghost use Rattle.std.specs.Prelude.{◌≡◌, ◌<◌, ◌≤◌, ◌%◌, length};
+    ghost use Rattle.tc_octets.specs.Cltus.{HasNone, Receiver, found_of, still, waits};
 
     ghost Value = { Receiver };
 
-    ghost view = { λ reader. record { mode = reader.mode; place = reader.spot } };
+    ghost view = { λ reader. record { mode = reader.mode; last = found_of reader.ended reader.information reader.spot } };
 
-    ghost invariant = { λ reader. (waits reader.spot < 8) × (kept reader.spot ≤ 1029) };
+    ghost invariant = { λ reader. (waits reader.spot < 8) × HasNone reader.spot (still reader.ended reader.information)
+        × (length reader.information % 7 ≡ 0) × (length reader.information ≤ 1029) };
 }
 
 impl CltuReader {
-    /// A receiver that has seen nothing.
+    /// Returns a receiver that has seen nothing.
     pub fn new(mode: Mode) -> CltuReader
         ensures { result ≡ fresh mode }
     {
         CltuReader {
             mode,
             spot: Spot::new(),
+            information: Candidate::new(),
+            ended: false,
         }
     }
 
-    /// Takes the next octet. `Some` where a CLTU ended with it: the information of its codeblocks.
-    #[tactic(auto, using(crate::proofs::CltuLemmas::too_few, crate::proofs::CltuLemmas::kept_come), unfolding(crate::specs::Cltus::received))]
-    pub fn octet(&mut self, octet: u8) -> Option<Candidate>
-        ensures taken { Takes (received self.old.mode self.old.place octet) self.new.place result }
-        ensures mode { self.new.mode ≡ self.old.mode }
-        ensures few { waits self.new.place < 8 }
-        ensures bound { kept self.new.place ≤ 1029 }
+    /// Takes the next octet. If a CLTU ended with it, `information` gives that of its codeblocks until the next octet comes.
+    #[tactic(auto, using(crate::proofs::CltuLemmas::come_keeping, crate::proofs::CltuLemmas::none_come, crate::proofs::CltuLemmas::few_kept), unfolding(crate::specs::Cltus::received))]
+    pub fn octet(&mut self, octet: u8)
+        ensures taken { self.new ≡ after self.old octet }
+        ensures few { waits self.new.last.place < 8 }
+        ensures bound { kept self.new.last.place ≤ 1029 }
     {
-        let mode = self.mode;
+        self.information.begin(self.ended);
         self.spot.take(octet);
-        if self.spot.waits() < CODEBLOCK {
+        self.ended = take_block(self.mode, &mut self.spot, &mut self.information);
+    }
+
+    /// Returns the information of the CLTU that ended with the last octet, or `None` if none did.
+    pub fn information(&self) -> Option<&Candidate>
+        ensures { MatchOption result (self.now.last.ended ≡ None) (λ information. self.now.last.ended ≡ Some information.now) }
+    {
+        if !self.ended {
             return None;
         }
-        self.spot.take_block(mode)
+        Some(&self.information)
     }
 }

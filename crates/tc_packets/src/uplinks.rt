@@ -100,16 +100,13 @@ pub fn read_upward(profile: &Profile, octets: &[u8]) -> Result<Upward, UpwardFau
     }
 }
 
-/// What the information of a CLTU says, down to the request in it. Takes no memory.
+/// Reads the information of a CLTU, down to the request in it. Takes no memory.
 #[tactic(auto, using(crate::proofs::UplinkLemmas::from_frame))]
-pub fn read_information(
-    profile: &Profile,
-    mut information: Candidate,
-) -> Result<Upward, UpwardFault>
-    ensures { ReadsInformation profile.now information result }
+pub fn read_information(profile: &Profile, information: &Candidate) -> Result<Upward, UpwardFault>
+    ensures { ReadsInformation profile.now information.now result }
 {
-    information.derandomize(profile.tc.randomizer);
-    match information.frame() {
+    let plain = information.derandomized(profile.tc.randomizer);
+    match plain.frame() {
         Some(frame) => read_upward(profile, frame),
         None => Err(UpwardFault::NoFrame),
     }
