@@ -1,12 +1,15 @@
 //! The fixed parts of the page. Edit the files of `page/`, and let `tools/page_parts.py` write this one.
 
+/// The policy of an open desk's page: its style and its one script are its own, and it asks its own desk alone.
+pub const POLICY: &str =
+    "default-src 'none'; style-src 'unsafe-inline'; img-src data:; script-src 'sha256-WFnSHxfpE+/yMjL/MjvgVSppN3ZnVsZXNoNEyM0HCH8='; connect-src 'self'";
+
 /// The head of the page, up to its style.
 pub(crate) const HEAD: &str = r##"<!doctype html>
 <html lang="en">
 <head>
 <meta charset="utf-8">
 <meta name="viewport" content="width=device-width">
-<meta http-equiv="Content-Security-Policy" content="default-src 'none'; style-src 'unsafe-inline'; img-src data:">
 <link rel="icon" href="data:,">
 <title>Telecommand desk</title>
 <style>
@@ -170,8 +173,70 @@ rect.Doubtful { fill: url(#hatch); }
 }
 "##;
 
-/// That the page is asked for again.
-pub(crate) const REFRESH: &str = r##"<meta http-equiv="refresh" content="5">
+/// The policy of a page on which no script runs.
+pub(crate) const STRICT: &str =
+    r##"<meta http-equiv="Content-Security-Policy" content="default-src 'none'; style-src 'unsafe-inline'; img-src data:">
+"##;
+
+/// The end of the policy, the page's refresh if no script may run, and the start of its script.
+pub(crate) const LIVE: &str = r##"">
+<noscript><meta http-equiv="refresh" content="5"></noscript>
+<script>
+"##;
+
+/// The script.
+pub(crate) const SCRIPT: &str =
+    r##"// Asks for the board again every 5 seconds and shows it in place of the last one. While none comes, the last one stays, below a red line that says since when.
+(() => {
+  const EVERY = 5, PATIENCE = 10;
+  let answered = Date.now(), why = '', asking = false;
+
+  const clock = (at) => new Date(at).toISOString().slice(11, 19);
+  const span = (s) => s < 60 ? `${s} s` : s < 3600 ? `${Math.floor(s / 60)} min` : s < 86400 ? `${Math.floor(s / 3600)} h ${Math.floor(s % 3600 / 60)} min`
+    : `${Math.floor(s / 86400)} d ${Math.floor(s % 86400 / 3600)} h`;
+  const line = (id, text) => {
+    const header = document.querySelector('header');
+    if (!header) return;
+    const it = document.getElementById(id) || header.appendChild(document.createElement('p'));
+    it.id = id;
+    it.textContent = text;
+    it.hidden = !text;
+  };
+
+  // how old the last move is, and how long there was no board, by the clock of this browser
+  const tell = () => {
+    const moved = document.getElementById('moved');
+    const age = moved ? Math.floor(Date.now() / 1000) - Number(moved.dataset.at) : 0;
+    line('age', !moved ? '' : age < 0 ? 'which is later than the clock here' : `${span(age)} ago`);
+    line('silent', why && `NO BOARD since ${clock(answered)} UTC, ${span(Math.floor((Date.now() - answered) / 1000))}: ${why}. This is the last one.`);
+  };
+
+  const show = (text) => {
+    const page = new DOMParser().parseFromString(text, 'text/html');
+    if (page.title !== document.title || !page.querySelector('section.urgent')) return 'another page was answered';
+    if (page.querySelector('style').textContent !== document.querySelector('style').textContent) location.reload();
+    document.body.replaceWith(page.body);
+    answered = Date.now();
+    return '';
+  };
+
+  const ask = async () => {
+    if (asking) return;
+    asking = true;
+    try {
+      const answer = await fetch(location.href, { cache: 'no-store', signal: AbortSignal.timeout(PATIENCE * 1000) });
+      why = answer.status === 200 ? show(await answer.text()) : `the answer was ${answer.status}`;
+    } catch {
+      why = 'no answer';
+    }
+    asking = false;
+    tell();
+  };
+
+  document.addEventListener('DOMContentLoaded', tell);
+  setInterval(tell, 1000);
+  setInterval(ask, EVERY * 1000);
+})();
 "##;
 
 /// Where the heading begins.
@@ -184,11 +249,16 @@ pub(crate) const TILES: &str = r##"<section class="tiles">
 <h2>How many stand where</h2>
 "##;
 
-/// Where the table of what waits begins.
-pub(crate) const WAITS: &str = r##"<section class="waits">
-<h2>What waits for a person</h2>
+/// What the heading says of a file that nobody has open.
+pub(crate) const CLOSED: &str = r##"<p class="file">closed file</p>
+<p>no failed request is listed; each scheduled one counts as on board</p>
+"##;
+
+/// Where the table of what is open begins.
+pub(crate) const URGENT: &str = r##"<section class="urgent">
+<h2>What is open, most urgent first</h2>
 <table>
-<thead><tr><th>What</th><th>Waits for</th><th>By whom</th></tr></thead>
+<thead><tr><th>What</th><th>Name</th><th>Service</th><th>Waits for</th><th>By whom</th><th>For</th></tr></thead>
 <tbody>
 "##;
 
