@@ -139,14 +139,14 @@ of_tiles counts failed = before _ _ _ (both _ _ _ _ (behind _ _ _ (of_fixed _)
 
 -- ---- what is open
 
+of_other : (by : Option (List ℕ)) → Tells (other_parts by) []
+unfolding other_parts
+of_other None = record { is = refl }
+of_other (Some person) = record { is = refl }
+
 of_wanting : (w : Wanting) → Tells (wanting_parts w) []
 unfolding wanting_parts approvals_parts author_parts
 of_wanting w = quiet _ _ (quiet _ _ (record { is = refl }) (record { is = refl })) (of_other w.by)
-  where
-    of_other : (by : Option (List ℕ)) → Tells (other_parts by) []
-    unfolding other_parts
-    of_other None = record { is = refl }
-    of_other (Some person) = record { is = refl }
 
 of_approval : (waits : Option Waiting) → Tells (approval_parts waits) []
 of_approval None = of_fixed _

@@ -27,8 +27,8 @@ pub(crate) const STYLE: &str =
 * { box-sizing: border-box; margin: 0; padding: 0; }
 body {
   display: grid; gap: 6px; padding: 6px; min-height: 100vh;
-  grid-template: "heading heading moves" auto "tiles tiles moves" auto "link link moves" auto "waits ways moves" auto "schedule ways moves" 1fr
-    / fit-content(600px) minmax(0, 1fr) auto;
+  grid-template: "heading heading moves" auto "tiles tiles moves" auto "link link moves" auto "urgent ways moves" auto "schedule ways moves" 1fr
+    / fit-content(700px) minmax(0, 1fr) auto;
   background: var(--ground); color: var(--text);
   font: 13px/18px "DejaVu Sans", Verdana, "Segoe UI", "Helvetica Neue", Arial, sans-serif; font-variant-numeric: tabular-nums;
 }
@@ -42,14 +42,16 @@ table:not(:has(tbody tr)) { display: none; }
 em { font-style: normal; font-weight: bold; white-space: nowrap; }
 .none { color: var(--dim); font-size: 16px; padding: 4px 0; }
 .more { font-weight: bold; padding-top: 2px; }
-.few .waits, .few .ways, .few .schedule { font-size: 16px; line-height: 24px; }
-.few .waits td, .few .ways td { padding-top: 5px; padding-bottom: 5px; }
-.few .waits th, .few .ways th, .few .axis b { font-size: 12px; }
+.few .ways { font-size: 14px; line-height: 20px; }
+.few .ways td { padding-top: 4px; padding-bottom: 4px; }
+.few .schedule { font-size: 16px; line-height: 24px; }
 
 /* (a) the heading */
-header { grid-area: heading; display: flex; gap: 16px; align-items: baseline; }
+header { grid-area: heading; display: flex; flex-wrap: wrap; gap: 0 16px; align-items: baseline; }
 h1 { font-size: 24px; line-height: 34px; flex: 1; white-space: nowrap; }
 header p { color: var(--dim); font-size: 13px; white-space: nowrap; }
+#age { color: var(--text); font-weight: bold; font-size: 14px; margin-left: -10px; }
+#silent { order: -1; flex: 0 0 100%; padding: 6px 12px; background: var(--red); color: #fff; font-size: 26px; line-height: 34px; font-weight: bold; white-space: normal; }
 header b { color: var(--text); font-size: 14px; }
 header .file { background: var(--text); color: var(--ground); font-weight: bold; font-size: 20px; padding: 2px 12px; }
 
@@ -69,19 +71,32 @@ header .file { background: var(--text); color: var(--ground); font-weight: bold;
 .failed { background: var(--red); border-color: #fff; }
 .completed { border-color: var(--green); }
 .doubt, .failed, .doubt small, .failed small { color: #fff; font-weight: bold; }
+.past { border-color: var(--red); }
 .tile.zero { background: var(--panel); border-color: var(--line); border-image: none; color: #71809a; }
 .tile.zero small { color: #71809a; }
 
-/* (c) what waits */
-.waits { grid-area: waits; min-width: 540px; overflow-wrap: break-word; }
-.waits td { vertical-align: top; }
-.waits td:first-child { white-space: nowrap; border-left: 6px solid var(--text); padding-left: 6px; }
-.waits .Entered td:first-child { border-color: var(--orange); }
-.waits .Approved td:first-child { border-color: var(--sky); }
-.waits .Locked td:first-child { border-color: var(--line); }
-.waits .Locked td { color: var(--dim); }
-.waits .Doubtful { background: #5a2800; font-weight: bold; }
-.waits .Doubtful td:first-child { border-color: var(--vermilion); }
+/* (c) what is open */
+.urgent { grid-area: urgent; min-width: 640px; overflow-wrap: break-word; }
+.urgent td { vertical-align: top; }
+.urgent td:first-child { border-left: 6px solid var(--line); padding-left: 6px; }
+.urgent td:nth-child(2), .urgent td:nth-child(3), .urgent td:last-child { white-space: nowrap; }
+.urgent td:last-child, .urgent th:last-child { text-align: right; padding-right: 0; }
+.urgent:not(:has(tbody tr:nth-child(25))) { font-size: 14px; line-height: 20px; }
+.urgent:not(:has(tbody tr:nth-child(25))) td { padding-top: 3px; padding-bottom: 3px; }
+.urgent:not(:has(tbody tr:nth-child(11))) { font-size: 16px; line-height: 24px; }
+.urgent .InDoubt { background: #5a2800; font-weight: bold; }
+.urgent .InDoubt td:first-child { border-color: var(--vermilion); }
+.urgent .FailedSince { background: #5c0012; font-weight: bold; }
+.urgent .FailedSince td:first-child { border-color: #ff5c70; }
+.urgent .LostReport { background: #4a1f38; font-weight: bold; }
+.urgent .LostReport td:first-child { border-color: var(--purple); }
+.urgent .Approval td:first-child { border-color: var(--orange); }
+.urgent .StepDue td:first-child { border-color: var(--text); }
+.urgent .Flying td:first-child { border-color: var(--blue); }
+.urgent .Free td:first-child { border-color: var(--sky); }
+.urgent .LockedForever td:first-child { border-color: #ff5c70; }
+.urgent .LockedForever td:nth-child(4), .urgent .LockedForever td:nth-child(5) { font-weight: bold; }
+.urgent .Activity td, .urgent .Locked td { color: var(--dim); }
 
 /* (d) the link, and the schedule */
 .link { grid-area: link; display: flex; gap: 2px 14px; align-items: center; }
@@ -105,7 +120,7 @@ dd { font-size: 15px; line-height: 20px; white-space: nowrap; }
 .ways td { white-space: nowrap; }
 .ways td.bar, .ways th.bar { width: 100%; min-width: 200px; padding: 0 6px 0 0; }
 .bar svg { display: block; width: 100%; height: 12px; overflow: visible; }
-.few .bar svg { height: 20px; }
+.few .bar svg { height: 16px; }
 .bar svg.lines { height: 3px; }
 .axis { position: relative; height: 28px; }
 .axis b { position: absolute; bottom: 0; width: 6.4em; white-space: normal; font-size: 10px; line-height: 14px; font-weight: normal; }
@@ -136,6 +151,26 @@ rect.Doubtful { fill: url(#hatch); }
   body > * { margin-bottom: 8px; }
   .tiles { grid-template-columns: repeat(4, 1fr); }
 }
+@media (max-width: 700px) {
+  header { display: block; }
+  header p { white-space: normal; }
+  #age { margin: 0; }
+  .tiles { grid-template-columns: repeat(4, 1fr); gap: 4px; }
+  .tile { border-left-width: 5px; padding: 0 2px 2px 4px; overflow-wrap: anywhere; }
+  .tile b { font-size: 24px; line-height: 28px; }
+  .tile i { font-size: 14px; line-height: 24px; }
+  .tile p { font-size: 11px; line-height: 13px; }
+  .tile small { display: none; }
+  .urgent { min-width: 0; padding: 4px; }
+  .urgent thead { display: none; }
+  .urgent tbody tr { display: flex; flex-wrap: wrap; padding: 2px 0; }
+  .urgent td:nth-child(1) { flex: 1 1 auto; }
+  .urgent td:nth-child(4) { flex: 0 0 100%; }
+  .urgent td { padding-left: 12px; }
+  .urgent td:last-child { flex: 1; }
+  .link { display: block; }
+  .ways, .moves { overflow-x: auto; }
+}
 
 @media (min-width: 2500px) { body { zoom: 1.33; min-height: 75vh; } }
 @media (min-width: 3800px) { body { zoom: 2; min-height: 50vh; } }
@@ -144,10 +179,11 @@ rect.Doubtful { fill: url(#hatch); }
 @media print {
   :root { color-scheme: light; --ground: #fff; --panel: #fff; --line: #999; --text: #000; --dim: #333; }
   * { print-color-adjust: exact; -webkit-print-color-adjust: exact; }
-  .waits { min-width: 0; }
+  .urgent { min-width: 0; }
+  #age, #silent { display: none; }
   body { display: block; font-size: 11px; line-height: 15px; padding: 0; min-height: 0; }
   section { padding: 0; margin-bottom: 14px; }
-  .few .waits, .few .ways, .few .schedule { font-size: 13px; line-height: 17px; }
+  .urgent:not(:has(tbody tr:nth-child(25))), .few .ways, .few .schedule { font-size: 13px; line-height: 17px; }
   h2 { break-after: avoid; border-bottom: 2px solid #000; margin-bottom: 3px; }
   thead { display: table-header-group; }
   tr, li, .tile, .link, .schedule { break-inside: avoid; }
@@ -161,7 +197,7 @@ rect.Doubtful { fill: url(#hatch); }
   .doubt:not(.zero) small, .failed:not(.zero) small { color: #000; }
   .doubt:not(.zero) { border-color: #000; outline: 3px dashed #000; }
   .failed:not(.zero) { border-color: var(--red); outline: 3px solid var(--red); }
-  .waits tr.Doubtful { background: #ffd9bf; }
+  .urgent tr.InDoubt, .urgent tr.FailedSince, .urgent tr.LostReport { background: #ffd9bf; }
   .premise { color: #fff; }
   .closed .premise { color: #000; }
   .ways td.by, .few .ways td.by { max-width: none; }
