@@ -69,14 +69,7 @@ pub fn file_page<A: Allocator + Copy + Drop>(
     ensures few { IfOk result (λ t. string_len t ≤ MOST_BYTES) }
 {
     let scheduled = scheduled_in(alloc, records)?;
-    page_of(
-        alloc,
-        records,
-        records.rows().len(),
-        &scheduled,
-        None,
-        None,
-    )
+    page_of(alloc, records, records.rows().len(), &scheduled, None, None)
 }
 
 /// The page of a desk that was opened so. Fails if memory is refused.

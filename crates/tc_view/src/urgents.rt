@@ -9,7 +9,9 @@ ghost use Rattle.tc_view.specs.Urgents.{counts_of, is_about, is_critical, is_of_
 use crate::adding::add;
 use std::alloc::{AllocError, Allocator};
 use tc_book::Records;
-use tc_types::{ListedActivity, Name, Place, ProcedureStep, Request, StepText, Waiting, is_same_name};
+use tc_types::{
+    ListedActivity, Name, Place, ProcedureStep, Request, StepText, Waiting, is_same_name,
+};
 use tc_urgent::{UrgentKind, UrgentLine, count_of};
 use tc_wall::{KINDS, MOST_LINES, UrgentRow};
 
@@ -61,11 +63,13 @@ fn text_of(steps: &[ProcedureStep], waiting: &Option<Waiting>) -> Option<StepTex
     ensures { result ≡ text_of steps.now waiting.now }
 {
     match waiting {
-        Some(Waiting::Step {
-            procedure,
-            step,
-            ..
-        }) => step_text(steps, procedure, *step),
+        Some(
+            Waiting::Step {
+                procedure,
+                step,
+                ..
+            },
+        ) => step_text(steps, procedure, *step),
         _ => None,
     }
 }
@@ -84,10 +88,7 @@ pub(crate) fn request_of<A: Allocator + Copy + Drop>(
 }
 
 /// Whether the request of a line is critical.
-fn is_request_critical<A: Allocator + Copy + Drop>(
-    records: &Records<A>,
-    line: &UrgentLine,
-) -> bool
+fn is_request_critical<A: Allocator + Copy + Drop>(records: &Records<A>, line: &UrgentLine) -> bool
     ensures { result ≡ is_critical records.now.book line.now None }
 {
     match request_of(records, line) {

@@ -1,7 +1,7 @@
--- The first of them are there.
+-- The rows of the first of them are there.
 use Rattle.std.proofs.Common.{◌≡◌, map, take}
-use Rattle.tc_view.specs.Waits.{wait_of}
-use Rattle.tc_view.proofs.waits.each_of.Given as goal
+use Rattle.tc_view.specs.Urgents.{row_of}
+use Rattle.tc_view.proofs.urgents.each_of.Given as goal
 
-abbrev pub invariant-loop-one : goal.invariant-loop-one
-invariant-loop-one g l = l.waits.items ≡ map (wait_of l.steps) (take l.one-index l.waiting)
+abbrev pub invariant-loop-line : goal.invariant-loop-line
+invariant-loop-line g l = l.rows.items ≡ map (row_of l.records.book) (take l.line-index l.lines)
