@@ -1,7 +1,9 @@
 #!/usr/bin/env python3
 """page_parts.py [--check]: writes crates/tc_wall/src/fixed.rt, the constants of the page's fixed parts, from the files of crates/tc_wall/page, which a person
-edits. With --check it only says whether they agree.
+edits, and with them the policy that allows the script of the page and no other. With --check it only says whether they agree.
 """
+import base64
+import hashlib
 import os
 import sys
 
@@ -33,13 +35,24 @@ class Part:
         return f"\n/// {self.about}\npub(crate) const {self.constant}: &str ={gap}{text}\n"
 
 
+def policy() -> str:
+    """The policy of the page (Content Security Policy, level 3): one script runs, the one whose text between its tags has this hash. It may ask the desk."""
+    with open(f"{FOLDER}/script.js", "rb") as file:
+        text = b"\n" + file.read()
+    digest = base64.b64encode(hashlib.sha256(text).digest()).decode("ascii")
+    return f"default-src 'none'; style-src 'unsafe-inline'; img-src data:; script-src 'sha256-{digest}'; connect-src 'self'"
+
+
 PARTS = (
     Part("head.html", "The head of the page, up to its style."),
     Part("style.css", "The style."),
-    Part("refresh.html", "That the page is asked for again."),
+    Part("strict.html", "The policy of a page on which no script runs."),
+    Part("live.html", "The end of the policy, the page's refresh if no script may run, and the start of its script."),
+    Part("script.js", "The script."),
     Part("heading.html", "Where the heading begins."),
     Part("tiles.html", "Where the tiles begin."),
-    Part("waits.html", "Where the table of what waits begins."),
+    Part("closed.html", "What the heading says of a file that nobody has open."),
+    Part("urgent.html", "Where the table of what is open begins."),
     Part("schedule.html", "Where the on-board schedule begins."),
     Part("ways.html", "Where the ways begin, with their legend."),
     Part("ways-head.html", "Where the table of the ways begins, up to its axis."),
@@ -49,7 +62,9 @@ PARTS = (
 
 def made() -> str:
     """What the file of the constants has to have."""
-    return HEAD + "".join(part.rust() for part in PARTS)
+    about = "The policy of an open desk's page: its style and its one script are its own, and it asks its own desk alone."
+    said = f'\n/// {about}\npub const POLICY: &str =\n    "{policy()}";\n'
+    return HEAD + said + "".join(part.rust() for part in PARTS)
 
 
 def main() -> int:

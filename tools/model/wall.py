@@ -4,8 +4,9 @@ the program nothing.
 """
 import os
 from collections import Counter
-from typing import Iterable, Iterator, Mapping, NamedTuple, Sequence
+from typing import AbstractSet, Iterable, Iterator, Mapping, NamedTuple, Optional, Sequence
 
+from model.book import Book
 from model.desk import Desk
 from model.facts import FINAL, Place, cause_word, place_word
 from model.farm import OPEN
@@ -13,10 +14,13 @@ from model.link import Link
 from model.report import time_of
 from model.request import Request
 from model.rows import Move
-from model.waiting import Approval, Doubt, Ready, Wait, waits
+from model.urgent import ACTIVITY, APPROVAL, FAILED, FLYING, FOR_EVER, FREE, IN_DOUBT, LOCKED, LOST, STEP_DUE, Line as UrgentLine, folded
+from model.urgent import lines_of as urgent_lines
+from model.waiting import Approval, Ready, Wait, Work, waits
+from page_parts import policy
 
 FOLDER = f"{os.path.dirname(os.path.dirname(os.path.dirname(os.path.realpath(__file__))))}/crates/tc_wall/page"
-MOST_OPEN, MOST_WAITS, MOST_SHOWN_ACTIVITIES, MOST_MOVES, MOST_STAGES = 200, 200, 64, 50, 12
+MOST_OPEN, MOST_LINES, MOST_SHOWN_ACTIVITIES, MOST_MOVES, MOST_STAGES = 200, 150, 64, 50, 12
 MOST_FEW = 20  # with so many rows at most the letters are large
 # The axis: how wide it is, and how much of it lies behind the last moment; how far apart its lines are at least; and as how many seconds a gap counts at
 # least, and at most.
@@ -25,7 +29,29 @@ WIDTH, TAIL, APART, LEAST_GAP, MOST_GAP = 640, 80, 140, 30, 600
 # A sign for each place; tiles and rows have the same.
 ENTERED_SIGN, APPROVED_SIGN, WAY_SIGN, SCHEDULED_SIGN, DOUBT_SIGN, FAILED_SIGN, COMPLETED_SIGN, ENDED_SIGN = (
     "&#9675;", "&#9679;", "&#9654;", "&#9670;", "?", "&#215;", "&#10003;", "&#9632;")
-LOCKED_SIGN, WORK_SIGN, CRITICAL_SIGN = "&#9676;", "&#9998;", "&#9650;"
+CRITICAL_SIGN = "&#9650;"
+
+
+class Kind(NamedTuple):
+    """A kind of lines: its class, its sign, what is said of the lines that are left out; and what it waits for and by whom, if that is always the same."""
+    name: str
+    sign: str
+    left: str
+    says: str = ""
+    whom: str = ""
+
+
+KINDS = {
+    IN_DOUBT: Kind("InDoubt", DOUBT_SIGN, "in doubt", "IN DOUBT: on board or not?", "anyone"),
+    FAILED: Kind("FailedSince", FAILED_SIGN, "failed", "FAILED", "look why"),
+    APPROVAL: Kind("Approval", ENTERED_SIGN, "wait for approval"),
+    STEP_DUE: Kind("StepDue", "&#9998;", "step due"),
+    FLYING: Kind("Flying", WAY_SIGN, "on the way", "on its way, or on board", "nobody"),
+    LOST: Kind("LostReport", "!", "report lost", "REPORT LOST, or late", "look why"),
+    FREE: Kind("Free", APPROVED_SIGN, "free to release", "release", "anyone"),
+    ACTIVITY: Kind("Activity", "&#8627;", "activities"),
+    FOR_EVER: Kind("LockedForever", "&#8856;", "locked for ever"),
+    LOCKED: Kind("Locked", "&#9676;", "locked")}
 
 
 class Tile(NamedTuple):
@@ -85,69 +111,98 @@ def critical(holds: bool) -> str:
 def heading(desk: Desk, closed: bool) -> Iterator[str]:
     """How the desk was opened, or that the file is closed; how many were entered; and the last move and its moment."""
     yield fixed("heading.html")
-    yield '<p class="file">closed file</p>\n' if closed else f"<p>opened at <b>{time_of(desk.since)}</b> UTC after <b>{desk.stood}</b> moves</p>\n"
+    yield fixed("closed.html") if closed else f"<p>opened at <b>{time_of(desk.since)}</b> UTC after <b>{desk.stood}</b> moves</p>\n"
     yield f"<p><b>{len(desk.book.requests)}</b> entered</p>\n"
     if desk.book.history:
         last = desk.book.history[-1]
-        yield f"<p>last move <b>{last.seq}</b> at <b>{time_of(last.moment)}</b> UTC</p>\n"
+        yield f'<p id="moved" data-at="{last.moment}">last move <b>{last.seq}</b> at <b>{time_of(last.moment)}</b> UTC</p>\n'
     else:
         yield "<p>nothing moved yet</p>\n"
     yield "</header>\n"
 
 
-def tiles(counts: Mapping[Place, int]) -> Iterator[str]:
-    """The tiles: each has the sum of its places, and each place with its count."""
+def tiles(counts: Mapping[Place, int], failed: int) -> Iterator[str]:
+    """The tiles: each has the sum of its places, and each place with its count. That of those that failed stands out if one failed after the opening."""
     yield fixed("tiles.html")
     for tile in TILES:
         count = sum(counts[it] for it in tile.places)
-        yield f'<div class="tile {tile.kind}{"" if count else " zero"}"><i>{tile.sign}</i><b>{count}</b><p>{tile.label}</p><small>'
+        kind = "past" if tile.kind == "failed" and not failed else tile.kind
+        yield f'<div class="tile {kind}{"" if count else " zero"}"><i>{tile.sign}</i><b>{count}</b><p>{tile.label}</p><small>'
         for at, place in enumerate(tile.places):
             yield f"{', ' if at else ''}{place.word} {counts[place]}"
         yield "</small></div>\n"
     yield "</section>\n"
 
 
-# ---- what waits
+# ---- what is open
 
-def wait_row(kind: str, sign: str, what: str, waits_for: str, by_whom: str) -> str:
-    """A row of three cells."""
-    return f'<tr class="{kind}"><td>{sign} {what}</td><td>{waits_for}</td><td>{by_whom}</td></tr>\n'
-
-
-def approval_row(it: Approval) -> str:
-    """Approvals that are wanting, and who may give none: the author, and who gave one."""
-    what = f"stack {escaped(it.stack)}" if it.stack else f"request {it.number}"
-    mark = f" {critical(True)}" if it.is_critical else ""
-    rows = f", rows {it.rows} first {it.number}" if it.stack else ""
-    others = "".join(f", {escaped(person)}" for person in it.given)
-    return wait_row("Entered", ENTERED_SIGN, what + mark, f"approval {len(it.given)} of {it.wanted}{rows}", f"not {escaped(it.author)}{others}")
+def age(seconds: int) -> str:
+    """So many seconds, in the two greatest units that they have."""
+    if seconds < 60:
+        return f"{seconds} s"
+    if seconds < 3600:
+        return f"{seconds // 60} min"
+    return f"{seconds // 3600} h {seconds % 3600 // 60} min" if seconds < 86400 else f"{seconds // 86400} d {seconds % 86400 // 3600} h"
 
 
-def ready_row(it: Ready) -> str:
-    """A request that may be released, or is locked."""
-    if it.lock is None:
-        return wait_row("Approved", APPROVED_SIGN, f"request {it.number}", "release", "anyone")
-    return wait_row("Locked", LOCKED_SIGN, f"request {it.number}", f"locked by line {it.lock.line} of {escaped(it.lock.stack)}", "nobody yet")
+def wait_for(found: Sequence[Wait], line: UrgentLine) -> Optional[Wait]:
+    """What a line waits for: that of its request or execution; of a row of a stack that waits for approval that of the stack."""
+    for it in found:
+        if isinstance(it, Approval) and it.stack:
+            if line.kind == APPROVAL and line.stack == it.stack:
+                return it
+        elif line.number == it.number and isinstance(it, Work) != bool(line.on_board):
+            return it
+    return None
 
 
-def wait_row_of(it: Wait) -> str:
-    """The row of a line of what waits."""
-    if isinstance(it, Approval):
-        return approval_row(it)
-    if isinstance(it, Ready):
-        return ready_row(it)
-    if isinstance(it, Doubt):
-        return wait_row("Doubtful", DOUBT_SIGN, f"request {it.number}", "IN DOUBT: on board or not?", "anyone")
-    who = "two persons" if it.is_countersigned else "anyone"
-    return wait_row("Work", WORK_SIGN, f"execution {it.number} of {escaped(it.procedure)}", f"step {it.step}: {escaped(it.text)}", who)
+def lock_text(it: Optional[Wait]) -> str:
+    """The line that has to be completed before."""
+    return f" by line {it.lock.line} of {escaped(it.lock.stack)}" if isinstance(it, Ready) and it.lock else ""
 
 
-def waits_section(found: Sequence[Wait]) -> Iterator[str]:
-    """All that waits for a person, up to a bound."""
-    yield fixed("waits.html")
-    for it in found[:MOST_WAITS]:
-        yield wait_row_of(it)
-    yield "</tbody>\n</table>\n" + none_of(found, "Nothing waits.") + left_out(len(found), MOST_WAITS) + "</section>\n"
+def says(line: UrgentLine, it: Optional[Wait]) -> tuple[str, str]:
+    """What a line waits for, and by whom."""
+    if line.kind == APPROVAL and isinstance(it, Approval):
+        return f"approval {len(it.given)} of {it.wanted}", f"not {', '.join(map(escaped, (it.author, *it.given)))}"
+    if line.kind == STEP_DUE and isinstance(it, Work):
+        return f"step {it.step}: {escaped(it.text)}", "two persons" if it.is_countersigned else "anyone"
+    if line.kind == ACTIVITY:
+        return f"activity of {line.insert}: do not release", "nobody"
+    if line.kind in (FOR_EVER, LOCKED):
+        return ("LOCKED FOR EVER" if line.kind == FOR_EVER else "locked") + lock_text(it), "withdraw it" if line.kind == FOR_EVER else "nobody yet"
+    return KINDS[line.kind].says, KINDS[line.kind].whom
+
+
+def is_critical(book: Book, line: UrgentLine, it: Optional[Wait]) -> bool:
+    """Whether a line is: that of one request if that is, that of a stack that waits for approval if the stack is."""
+    if isinstance(it, Approval) and it.stack:
+        return it.is_critical
+    return bool(line.on_board) and line.same == 0 and book.requests[line.number - 1].form.is_critical
+
+
+def urgent_row(book: Book, line: UrgentLine, it: Optional[Wait]) -> str:
+    """The row of a line."""
+    kind, is_step = KINDS[line.kind], line.kind == STEP_DUE
+    group = it.procedure if isinstance(it, Work) else line.stack
+    what = f"{kind.sign} {'execution' if is_step else 'request'} {line.number}" + (f" <b>and {line.same} more</b>" if line.same else "")
+    what += (f" of {escaped(group)}" if group else "") + (f" {critical(True)}" if is_critical(book, line, it) else "")
+    name, service = (line.on_board.split(" tc ") if line.on_board else ("", ""))
+    waits_for, whom = says(line, it)
+    cells = (what, name, service.replace(" ", "/"), waits_for, whom, age(line.waited) if line.on_board else "")
+    return f'<tr id="{"e" if is_step else "u"}{line.number}" class="{kind.name}">' + "".join(f"<td>{cell}</td>" for cell in cells) + "</tr>\n"
+
+
+def urgent_section(book: Book, lines: Sequence[UrgentLine]) -> Iterator[str]:
+    """What is open, most urgent first, up to a bound; and how many lines of each kind are left out."""
+    found, left = waits(book), Counter(it.kind for it in lines[MOST_LINES:])
+    yield fixed("urgent.html")
+    for it in lines[:MOST_LINES]:
+        yield urgent_row(book, it, wait_for(found, it))
+    yield "</tbody>\n</table>\n" + none_of(lines, "Nothing is open.")
+    for number, kind in KINDS.items():
+        yield f'<p class="more">lines left out: {left[number]} {kind.left}</p>\n' if left[number] else ""
+    yield "</section>\n"
 
 
 # ---- the link, and the schedule
@@ -216,9 +271,19 @@ class Line(NamedTuple):
     moment: int
 
 
-def open_requests(desk: Desk) -> list[int]:
-    """The numbers of the requests at a place that is not final, in order."""
-    return [it.number for it in desk.book.requests if desk.book.place(it.number) not in FINAL]
+def scheduled(desk: Desk, closed: bool) -> AbstractSet[int]:
+    """The requests that are on board: those of the mirror, or, of a file that nobody has open, those at Scheduled."""
+    return {it.number for it in desk.book.requests if desk.book.place(it.number) is Place.SCHEDULED} if closed else set(desk.mirror.times)
+
+
+def open_lines(desk: Desk, closed: bool) -> list[UrgentLine]:
+    """What is open, most urgent first. Nothing tells of the opening of a file that nobody has open, so no request failed after it."""
+    return urgent_lines(desk.book, len(desk.book.history) if closed else desk.stood, scheduled(desk, closed))
+
+
+def open_requests(desk: Desk, lines: Iterable[UrgentLine]) -> list[int]:
+    """The numbers of the requests at a place that is not final, in the order of these lines."""
+    return [it.number for it in lines if it.on_board and desk.book.place(it.number) not in FINAL]
 
 
 def way_of(desk: Desk, number: int) -> Way:
@@ -318,21 +383,27 @@ def moves_section(history: Sequence[Move]) -> Iterator[str]:
 
 # ---- the page
 
-def size_word(opened: int, waiting: int, activities: int) -> str:
+def size_word(opened: int, lines: int, activities: int) -> str:
     """Whether there are few rows, and the letters are large, or many."""
-    return "few" if opened <= MOST_FEW and waiting + activities <= MOST_FEW else "many"
+    return "few" if opened <= MOST_FEW and lines + activities <= MOST_FEW else "many"
+
+
+def script(closed: bool) -> str:
+    """The policy, and what it allows: one script on the page of an open desk, nothing on that of a closed file."""
+    if closed:
+        return fixed("strict.html")
+    return f'<meta http-equiv="Content-Security-Policy" content="{policy()}' + fixed("live.html") + fixed("script.js") + "</script>\n"
 
 
 def parts(desk: Desk, closed: bool) -> Iterator[str]:
     """All parts of the page, in order."""
-    book, found, numbers = desk.book, waits(desk.book), open_requests(desk)
-    yield fixed("head.html") + fixed("style.css") + "</style>\n"
-    if not closed:
-        yield fixed("refresh.html")
-    yield f'</head>\n<body class="{size_word(len(numbers), len(found), 0 if closed else len(desk.mirror.times))}">\n'
+    book, lines = desk.book, open_lines(desk, closed)
+    numbers, shown = open_requests(desk, lines), folded(lines)
+    yield fixed("head.html") + fixed("style.css") + "</style>\n" + script(closed)
+    yield f'</head>\n<body class="{size_word(len(numbers), len(shown), 0 if closed else len(desk.mirror.times))}">\n'
     yield from heading(desk, closed)
-    yield from tiles(Counter(Place(it.to_place) for it in book.last))
-    yield from waits_section(found)
+    yield from tiles(Counter(Place(it.to_place) for it in book.last), sum(it.kind == FAILED for it in lines))
+    yield from urgent_section(book, shown)
     yield from link_section(desk.link, closed)
     yield from schedule_section(desk, closed)
     yield from ways_section(desk, numbers)

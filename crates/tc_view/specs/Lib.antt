@@ -1,5 +1,5 @@
 pub mod Ways
-pub mod Waits
+pub mod Urgents
 pub mod Links
 pub mod Shown
 pub mod Gathered

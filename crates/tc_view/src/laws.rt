@@ -1,9 +1,23 @@
 //! What holds of any page. These functions do nothing: their clauses are the laws.
-ghost use Rattle.std.specs.Prelude.{◌≡◌, ℕ, List};
+ghost use Rattle.std.specs.Prelude.{◌≡◌, ◌≤◌, ℕ, List, drop};
+ghost use Rattle.std.specs.List.{AllByRecursion};
 ghost use Rattle.tc_book.specs.Book.{Book};
-ghost use Rattle.tc_view.specs.Shown.{IsFilePage};
+ghost use Rattle.tc_book.specs.Good.{IsGoodBook};
+ghost use Rattle.tc_urgent.specs.declared.lines.UrgentLine.{UrgentLine};
+ghost use Rattle.tc_urgent.specs.Kinds.{urgency};
+ghost use Rattle.tc_wall.specs.declared.walls.UrgentRow.{UrgentRow};
+ghost use Rattle.tc_wall.specs.declared.walls.Wall.{Wall};
+ghost use Rattle.tc_view.specs.Shown.{IsFilePage, ShowsBook};
 
-/// A book has one page: what a wall shows says all of its bytes.
+use tc_wall::MOST_LINES;
+
+/// A book that a desk could have written has one page: what a wall shows says all of its bytes.
 pub fn a_file_has_one_page()
-    ensures { (book : Book) (one two : List ℕ) → IsFilePage book one → IsFilePage book two → one ≡ two }
+    ensures { (book : Book) (one two : List ℕ) → IsGoodBook book → IsFilePage book one → IsFilePage book two → one ≡ two }
+{}
+
+/// No line that a wall leaves out is more urgent than one that it shows: none in doubt is left out while a lesser one is shown.
+pub fn nothing_more_urgent_is_left_out()
+    ensures { (book : Book) (stood : ℕ) (scheduled : List ℕ) (wall : Wall) (is : ShowsBook book stood scheduled wall)
+        → AllByRecursion (λ (row : UrgentRow). AllByRecursion (λ (left : UrgentLine). urgency row.line.kind ≤ urgency left.kind) (drop MOST_LINES is.shown)) wall.urgent.now }
 {}

@@ -10,6 +10,6 @@ mod lives;
 mod opens;
 mod pages;
 mod trails;
-mod waits;
+mod urgents;
 
 pub use pages::{desk_page, file_page};

@@ -1,14 +1,16 @@
-//! The requests that are open.
-ghost use Rattle.std.specs.Prelude.{◌≡◌, ◌<◌, ◌++◌, ◌∷◌, [], IfOk, List, OnOk, filter, take};
+//! The requests that are open, most urgent first.
+ghost use Rattle.std.specs.Prelude.{◌≡◌, ◌<◌, ◌++◌, ◌∷◌, [], IfOk, List, OnOk, length, take};
+ghost use Rattle.std.specs.List.{cons_option};
 ghost use Rattle.tc_types.specs.declared.requests.Request.{Request as SomeRequest};
-ghost use Rattle.tc_types.specs.Limits.{most_requests};
 ghost use Rattle.tc_view.specs.Gathered.{IsOpenOf};
-ghost use Rattle.tc_view.specs.Ways.{is_open, is_open_at, open_of};
+ghost use Rattle.tc_view.specs.Ways.{if_open, is_open, is_open_at, open_in, open_of};
 
 use crate::adding::add;
+use crate::urgents::request_of;
 use std::alloc::{AllocError, Allocator};
 use tc_book::{FINAL_PLACES, Records};
 use tc_types::{Place, Request};
+use tc_urgent::UrgentLine;
 use tc_wall::MOST_OPEN;
 
 /// The first requests that are open, and how many are.
@@ -20,7 +22,7 @@ pub(crate) struct Open<A: Allocator + Copy + Drop> {
     pub(crate) count: usize,
 }
 
-/// Whether who stands here is open.
+/// Whether a request at this place is open.
 fn is_open_at(place: Option<Place>) -> bool
     ensures { result ≡ is_open_at place }
 {
@@ -37,7 +39,18 @@ fn is_open<A: Allocator + Copy + Drop>(records: &Records<A>, request: &Request) 
     is_open_at(records.place_of(request.number.get()))
 }
 
-/// One more is open: it is one of the first, while there are few. Fails where memory is refused.
+/// The request of a line, if it is open.
+fn open_in<A: Allocator + Copy + Drop>(records: &Records<A>, line: &UrgentLine) -> Option<Request>
+    ensures { result ≡ open_in records.now.book line.now }
+{
+    let request = request_of(records, line)?;
+    if !is_open(records, &request) {
+        return None;
+    }
+    Some(request)
+}
+
+/// One more is open: it is one of the first, while there are few. Fails if memory is refused.
 fn add_first<A: Allocator>(first: &mut Vec<Request, A>, request: &Request) -> Result<(), AllocError>
     ensures { (seen : List SomeRequest) → first.old.items ≡ take MOST_OPEN seen → OnOk result (first.new.items ≡ take MOST_OPEN (seen ++ request.now ∷ [])) }
 {
@@ -48,37 +61,36 @@ fn add_first<A: Allocator>(first: &mut Vec<Request, A>, request: &Request) -> Re
     Ok(())
 }
 
-/// Looks at a request: one more is open, or none. Fails where memory is refused.
-fn look_at<A: Allocator + Copy + Drop>(
+/// One more is open, or none. Fails if memory is refused.
+fn add_open<A: Allocator + Copy + Drop>(
     found: &mut Open<A>,
-    records: &Records<A>,
-    request: &Request,
+    request: &Option<Request>,
 ) -> Result<(), AllocError>
-    requires few { found.old.count < most_requests }
-    ensures { (seen : List SomeRequest) → IsOpenOf seen found.old → OnOk result (IsOpenOf (seen ++ filter (is_open records.now.book) (request.now ∷ [])) found.new) }
+    requires few { found.old.count < usize.MAX }
+    ensures { (seen : List SomeRequest) → IsOpenOf seen found.old → OnOk result (IsOpenOf (seen ++ cons_option request.now []) found.new) }
 {
-    if !is_open(records, request) {
+    let Some(request) = request else {
         return Ok(());
-    }
+    };
     add_first(&mut found.first, request)?;
     found.count += 1;
     Ok(())
 }
 
-/// The requests of a book that are open. Fails where memory is refused.
+/// The requests of these lines that are open, in the order of the lines. Fails if memory is refused.
 pub(crate) fn open_of<A: Allocator + Copy + Drop>(
     alloc: A,
     records: &Records<A>,
+    lines: &[UrgentLine],
 ) -> Result<Open<A>, AllocError>
-    ensures { IfOk result (λ found. IsOpenOf (open_of records.now.book) found) }
+    ensures { IfOk result (λ found. IsOpenOf (open_of records.now.book lines.now) found) }
 {
     let mut found = Open {
         first: Vec::new(alloc),
         count: 0,
     };
-    for at in 0..records.count() {
-        let request = records.request(at + 1).unwrap();
-        look_at(&mut found, records, &request)?;
+    for line in lines {
+        add_open(&mut found, &open_in(records, line))?;
     }
     Ok(found)
 }

@@ -9,29 +9,35 @@ use crate::gathering::gather;
 use crate::lives::link_of;
 use crate::opens::open_of;
 use crate::trails::{trails_of, ways_of};
-use crate::waits::waits_of;
+use crate::urgents::{left_counts, requests_of, rows_of, scheduled_in};
 use std::alloc::{AllocError, Allocator};
 use tc_book::Records;
 use tc_desk::Desk;
 use tc_types::{Frame, Report};
+use tc_urgent::{UrgentKind, count_of, folded, urgent};
 use tc_wall::{Live, MOST_BYTES, Opening, ShownSchedule, Wall, wall_text};
 use tc_world::Carrier;
 
-/// The page of a book, with how a desk that has it open was opened, and what is told of it. Fails where memory is refused.
+/// The page of a book of which so many moves stood at the opening, and of which these requests are on board; with how a desk that has it open was opened, and
+/// what is told of it. Fails if memory is refused.
 fn page_of<A: Allocator + Copy + Drop>(
     alloc: A,
     records: &Records<A>,
+    stood: usize,
+    scheduled: &[u32],
     opening: Option<Opening>,
     live: Option<Live<'_>>,
 ) -> Result<String<A>, AllocError>
-    ensures page { IfOk result (λ t. (wall : SomeWall) × ShowsBook records.now.book wall × (wall.opening ≡ opening) × (wall.live ≡ live.entry) × (string_bytes t ≡ wall_page wall)) }
+    ensures page { IfOk result (λ t. (wall : SomeWall) × ShowsBook records.now.book stood scheduled.now wall × (wall.opening ≡ opening) × (wall.live ≡ live.entry) × (string_bytes t ≡ wall_page wall)) }
     ensures few { IfOk result (λ t. string_len t ≤ MOST_BYTES) }
 {
     // read for the proof alone: the book is good
     let _mark = records.mark();
-    let waiting = records.waiting(alloc)?;
-    let waits = waits_of(alloc, records.procedure_steps(), &waiting)?;
-    let found = open_of(alloc, records)?;
+    let lines = urgent(alloc, records, stood, scheduled)?;
+    let shown = folded(alloc, &lines)?;
+    let rows = rows_of(alloc, records, &shown)?;
+    let left = left_counts(&shown);
+    let found = open_of(alloc, records, &lines)?;
     let gathered = gather(alloc, records, &found.first)?;
     let trails = trails_of(alloc, records, &gathered, &found.first)?;
     let ways = ways_of(alloc, &trails)?;
@@ -40,8 +46,10 @@ fn page_of<A: Allocator + Copy + Drop>(
     let wall = Wall {
         entered: records.count(),
         counts: &counts,
-        waits: &waits,
-        waiting: waiting.len(),
+        urgent: &rows,
+        lines: shown.len(),
+        left: &left,
+        failed: count_of(&shown, UrgentKind::FailedSince.urgency()),
         opening,
         live,
         ways: &ways,
@@ -52,7 +60,7 @@ fn page_of<A: Allocator + Copy + Drop>(
     wall_text(alloc, &wall)
 }
 
-/// The page of the book of a file that nobody has open. Fails where memory is refused.
+/// The page of the book of a file that nobody has open. Fails if memory is refused.
 pub fn file_page<A: Allocator + Copy + Drop>(
     alloc: A,
     records: &Records<A>,
@@ -60,10 +68,11 @@ pub fn file_page<A: Allocator + Copy + Drop>(
     ensures page { IfOk result (λ t. IsFilePage records.now.book (string_bytes t)) }
     ensures few { IfOk result (λ t. string_len t ≤ MOST_BYTES) }
 {
-    page_of(alloc, records, None, None)
+    let scheduled = scheduled_in(alloc, records)?;
+    page_of(alloc, records, records.rows().len(), &scheduled, None, None)
 }
 
-/// The page of a desk that was opened so. Fails where memory is refused.
+/// The page of a desk that was opened so. Fails if memory is refused.
 pub fn desk_page<U: Carrier<Frame> + Drop, D: Carrier<Report> + Drop, A: Allocator + Copy + Drop>(
     alloc: A,
     desk: &Desk<U, D, A>,
@@ -73,6 +82,8 @@ pub fn desk_page<U: Carrier<Frame> + Drop, D: Carrier<Report> + Drop, A: Allocat
     ensures few { IfOk result (λ t. string_len t ≤ MOST_BYTES) }
 {
     let schedule = desk.schedule()?;
+    let scheduled = requests_of(alloc, &schedule.activities)?;
+    let stood = opening.stood;
     let live = Live {
         link: link_of(&desk.link()),
         schedule: ShownSchedule {
@@ -81,5 +92,12 @@ pub fn desk_page<U: Carrier<Frame> + Drop, D: Carrier<Report> + Drop, A: Allocat
             laid_in: schedule.activities.len(),
         },
     };
-    page_of(alloc, desk.records(), Some(opening), Some(live))
+    page_of(
+        alloc,
+        desk.records(),
+        stood,
+        &scheduled,
+        Some(opening),
+        Some(live),
+    )
 }

@@ -14,13 +14,19 @@ use Rattle.tc_types.specs.Lawful.{place_number}
 use Rattle.tc_types.specs.declared.waits.Wanting.{Wanting}
 use Rattle.tc_types.specs.declared.waits.Waiting.{Waiting}
 use Rattle.tc_types.specs.declared.waits.Waiting.TheVariants as waiting
+use Rattle.tc_types.specs.declared.waits.Lock.{Lock}
+use Rattle.tc_urgent.specs.declared.kinds.UrgentKind.{UrgentKind}
+use Rattle.tc_urgent.specs.declared.kinds.UrgentKind.TheVariants.{InDoubt, FailedSince, Approval, StepDue, Flying, LostReport, Free, ActivityOf, LockedForever, Locked}
+use Rattle.tc_urgent.specs.declared.lines.OnBoard.{OnBoard}
 use Rattle.tc_wall.specs.declared.axes.Mark.{Mark}
+use Rattle.tc_urgent.specs.Kinds.{insert_in}
+use Rattle.tc_wall.specs.declared.walls.UrgentRow.{UrgentRow}
 use Rattle.tc_wall.specs.declared.walls.Way.{Way}
 use Rattle.tc_wall.specs.declared.walls.Live.{Live}
 use Rattle.tc_wall.specs.declared.walls.Opening.{Opening}
 use Rattle.tc_wall.specs.declared.walls.ShownSchedule.{ShownSchedule}
 use Rattle.tc_wall.specs.declared.walls.Wall.{Wall}
-use Rattle.tc_wall.specs.declared.walls.TheConstants.{MOST_OPEN, MOST_STAGES, MOST_WAITS, MOST_MOVES, MOST_SHOWN_ACTIVITIES}
+use Rattle.tc_wall.specs.declared.walls.TheConstants.{MOST_LINES, MOST_OPEN, MOST_STAGES, MOST_MOVES, MOST_SHOWN_ACTIVITIES}
 use Rattle.tc_wall.specs.declared.links.FopWord.{FopWord}
 use Rattle.tc_wall.specs.declared.links.FopWord.TheVariants.{Active, RetransmitWithoutWait, RetransmitWithWait, InitialisingWithoutBc, InitialisingWithBc, Initial}
 use Rattle.tc_wall.specs.declared.links.FarmWord.{FarmWord}
@@ -28,23 +34,24 @@ use Rattle.tc_wall.specs.declared.links.FarmWord.TheVariants as farm
 use Rattle.tc_wall.specs.declared.links.FopLine.{FopLine}
 use Rattle.tc_wall.specs.declared.links.FarmLine.{FarmLine}
 use Rattle.tc_wall.specs.declared.links.LinkLines.{LinkLines}
-use Rattle.tc_wall.specs.declared.fixed.TheConstants.{HEAD, STYLE, REFRESH, HEADING, TILES, WAITS, SCHEDULE, WAYS, WAYS_HEAD, MOVES, FOOT}
+use Rattle.tc_wall.specs.declared.fixed.TheConstants.{HEAD, STYLE, POLICY, STRICT, LIVE, SCRIPT, HEADING, CLOSED, TILES, URGENT, SCHEDULE, WAYS, WAYS_HEAD, MOVES, FOOT}
 use Rattle.tc_wall.specs.declared.pages.TheConstants.{MOST_BYTES, MOST_FEW}
 use Rattle.tc_wall.specs.Parts.{Part, Fixed, shown, shown_all, fixed}
 use Rattle.tc_wall.specs.Bounds.{last_of, left_out_parts, none_parts}
 use Rattle.tc_wall.specs.Heading.{file_parts, last_parts, heading_parts}
-use Rattle.tc_wall.specs.Tiles.{count_at, sum_at, tile_head_parts, count_parts, next_parts, counts_parts, tile_parts, open_tiles_parts, final_tiles_parts, tiles_parts}
-use Rattle.tc_wall.specs.Waits.{critical_parts, marked_parts, other_parts, barred_parts, request_parts, stack_parts, waiting_parts, wait_parts, text_of, waits_parts}
+use Rattle.tc_wall.specs.Tiles.{count_at, sum_at, tile_head_parts, count_parts, next_parts, counts_parts, tile_parts, open_tiles_parts, failed_word, final_tiles_parts, tiles_parts}
+use Rattle.tc_wall.specs.Waits.{approval_parts, forever_parts, kind_says, lock_parts, locked_parts, other_parts, says_parts, step_parts, text_of, wanting_parts}
+use Rattle.tc_wall.specs.Urgents.{age_parts, begin_parts, critical_parts, group_of, group_parts, left_first_parts, left_last_parts, left_parts, marked_parts, on_board_parts, same_parts, urgent_parts, urgents_parts, waited_parts}
 use Rattle.tc_wall.specs.LinkParts.{fop_words, farm_words, flag_words, queue_parts, counter_parts, fop_parts, farm_parts, link_parts}
 use Rattle.tc_wall.specs.ScheduleParts.{activity_parts, known_schedule_parts}
 use Rattle.tc_wall.specs.Axis.{axis_of, lines_of, drawn}
 use Rattle.tc_wall.specs.Bars.{stage_parts, begin_of, end_of, bar_parts}
 use Rattle.tc_wall.specs.WayParts as ways
 use Rattle.tc_wall.specs.MoveParts.{move_parts, moves_parts}
-use Rattle.tc_wall.specs.Page.{laid_in, size_word, refresh_parts, head_parts, live_parts, page, wall_page}
-use Rattle.tc_wall.specs.Ranges.{IsShort, IsMoveInRange, IsWantingInRange, IsWaitingInRange, IsWaitInRange, IsOriginInRange, IsWayInRange, AreQueuesInRange, AreCountersInRange, IsFopInRange, IsFarmInRange, IsLinkInRange, IsActivityInRange, IsScheduleInRange, IsLiveInRange, IsOpeningInRange, IsWallInRange}
+use Rattle.tc_wall.specs.Page.{laid_in, size_word, live_script_parts, script_parts, head_parts, live_parts, page, wall_page}
+use Rattle.tc_wall.specs.Ranges.{IsShort, IsMoveInRange, IsWantingInRange, IsWaitingInRange, IsOnBoardInRange, IsLineInRange, IsUrgentInRange, IsOriginInRange, IsWayInRange, AreQueuesInRange, AreCountersInRange, IsFopInRange, IsFarmInRange, IsLinkInRange, IsActivityInRange, IsScheduleInRange, IsLiveInRange, IsOpeningInRange, IsLastInRange, IsWallInRange}
 use Rattle.tc_wall.proofs.ListLemmas.{flat_map-append}
-use Rattle.tc_wall.proofs.SizeLemmas.{size, of_nothing, of_text, of_words, of_u16, of_u32, of_u64, of_place, of_name, chosen_size, entered_size, moved_size, opened_size, tile_begins_size, tile_label_size, count_size, request_begins_size, stack_begins_size, approvals_size, rows_size, author_size, free_size, locked_size, doubt_size, work_size, worded_size, number_size, share_size, flies_size, section_size, premise_size, enabled_size, activity_size, row_begins_size, identity_size, command_size, way_author_size, bar_begins_size, place_size, label_size, tick_size, ticks_begin_size, who_size, what_size}
+use Rattle.tc_wall.proofs.SizeLemmas.{size, of_nothing, of_text, of_words, of_u16, of_u32, of_u64, of_place, of_name, chosen_size, entered_size, moved_size, opened_size, tile_begins_size, tile_label_size, count_size, approvals_size, author_size, due_size, insert_size, kind_says_size, known_size, left_some_size, line_size, subject_size, two_size, worded_size, number_size, share_size, flies_size, section_size, premise_size, enabled_size, activity_size, row_begins_size, identity_size, command_size, way_author_size, bar_begins_size, place_size, label_size, tick_size, ticks_begin_size, who_size, what_size}
 use Rattle.tc_wall.proofs.AxisLemmas.{IsOnAxis, axis_small, x_small, lines_small, lines_few, all_reversed}
 
 -- parts behind parts
@@ -82,19 +89,19 @@ none_size : (count : ℕ) (said : List ℕ) → length said ≤ 19 → size (non
 unfolding none_parts
 none_size count said few = chosen (nat_lt 0 count) _ _ 40 (more [] 0 40 (omega arith) of_nothing) (of_text _ _ 24 (of_words said 19 _ 5 few (of_text _ _ 0 of_nothing)))
 
-file_size : (opening : Option Opening) → IfSome opening IsOpeningInRange → size (file_parts opening) ≤ 88
+file_size : (opening : Option Opening) → IfSome opening IsOpeningInRange → size (file_parts opening) ≤ 200
 unfolding file_parts
-file_size (Some opening) h = opened_size opening h.stood
-file_size None h = more _ 32 88 (omega arith) (of_text _ _ 0 of_nothing)
+file_size (Some opening) h = more _ 88 200 (omega arith) (opened_size opening h.stood)
+file_size None h = fixed_size CLOSED.now 200 (lit≤ tt)
 
-last_size : (last : Option Move) → IfSome last (λ row. row.seq < 2 ^ 32) → size (last_parts last) ≤ 69
-last_size (Some row) small = moved_size row small
-last_size None h = fixed_size _ 69 (lit≤ tt)
+last_size : (last : Option Move) → IfSome last IsLastInRange → size (last_parts last) ≤ 101
+last_size (Some row) h = moved_size row h.seq h.moment
+last_size None h = fixed_size _ 101 (lit≤ tt)
 
-heading_size : (b : Wall) → b.entered < 2 ^ 32 → IfSome b.opening IsOpeningInRange → IfSome (slice_get b.moves.now (length b.moves.now - 1)) (λ row. row.seq < 2 ^ 32) → size (heading_parts b) ≤ 400
+heading_size : (b : Wall) → b.entered < 2 ^ 32 → IfSome b.opening IsOpeningInRange → IfSome (slice_get b.moves.now (length b.moves.now - 1)) IsLastInRange → size (heading_parts b) ≤ 544
 unfolding heading_parts
 heading_size b entered opening last =
-    both _ _ 390 10 (both _ _ 321 69 (both _ _ 288 33 (both _ _ 200 88 (fixed_size HEADING.now 200 (lit≤ tt)) (file_size b.opening opening)) (entered_size b.entered entered)) (last_size _ last)) (fixed_size _ 10 (lit≤ tt))
+    both _ _ 534 10 (both _ _ 433 101 (both _ _ 400 33 (both _ _ 200 200 (fixed_size HEADING.now 200 (lit≤ tt)) (file_size b.opening opening)) (entered_size b.entered entered)) (last_size _ last)) (fixed_size _ 10 (lit≤ tt))
 
 -- ---- the tiles
 
@@ -143,17 +150,95 @@ open_tiles_size counts all =
     (tile_size counts _ _ Queued (Queued ∷ Sent ∷ Confirmed ∷ Riding ∷ Accepted ∷ Started ∷ []) all (lit≤ tt) (lit≤ tt) (lit≤ tt))) (tile_size counts _ _ Scheduled (Scheduled ∷ []) all (lit≤ tt) (lit≤ tt) (lit≤ tt)))
     (tile_size counts _ _ Doubtful (Doubtful ∷ []) all (lit≤ tt) (lit≤ tt) (lit≤ tt))
 
-final_tiles_size : (counts : List ℕ) → AllByRecursion (λ n. n < 2 ^ 32) counts → size (final_tiles_parts counts) ≤ 500
+failed_size : (failed : ℕ) → length (failed_word failed) ≤ 9
+unfolding failed_word
+failed_size failed = chosen_size (nat_lt 0 failed) _ _ 9 (lit≤ tt) (lit≤ tt)
+
+final_tiles_size : (counts : List ℕ) (failed : ℕ) → AllByRecursion (λ n. n < 2 ^ 32) counts → size (final_tiles_parts counts failed) ≤ 500
 unfolding final_tiles_parts
-final_tiles_size counts all =
-    both _ _ 304 196 (both _ _ 152 152 (tile_size counts _ _ Failed (Failed ∷ []) all (lit≤ tt) (lit≤ tt) (lit≤ tt)) (tile_size counts _ _ Completed (Completed ∷ []) all (lit≤ tt) (lit≤ tt) (lit≤ tt)))
+final_tiles_size counts failed all =
+    both _ _ 304 196 (both _ _ 152 152 (tile_size counts _ _ Failed (Failed ∷ []) all (failed_size failed) (lit≤ tt) (lit≤ tt)) (tile_size counts _ _ Completed (Completed ∷ []) all (lit≤ tt) (lit≤ tt) (lit≤ tt)))
     (tile_size counts _ _ Withdrawn (Withdrawn ∷ Deleted ∷ Closed ∷ []) all (lit≤ tt) (lit≤ tt) (lit≤ tt))
 
-tiles_size : (counts : List ℕ) → AllByRecursion (λ n. n < 2 ^ 32) counts → size (tiles_parts counts) ≤ 1581
+tiles_size : (counts : List ℕ) (failed : ℕ) → AllByRecursion (λ n. n < 2 ^ 32) counts → size (tiles_parts counts failed) ≤ 1581
 unfolding tiles_parts
-tiles_size counts all = both _ _ 1570 11 (both _ _ 1070 500 (both _ _ 200 870 (fixed_size TILES.now 200 (lit≤ tt)) (open_tiles_size counts all)) (final_tiles_size counts all)) (fixed_size _ 11 (lit≤ tt))
+tiles_size counts failed all = both _ _ 1570 11 (both _ _ 1070 500 (both _ _ 200 870 (fixed_size TILES.now 200 (lit≤ tt)) (open_tiles_size counts all)) (final_tiles_size counts failed all)) (fixed_size _ 11 (lit≤ tt))
 
--- ---- what waits
+-- ---- what is open
+
+other_size : (by : Option (List ℕ)) → IfSome by IsShort → size (other_parts by) ≤ 98
+unfolding other_parts
+other_size None h = more [] 0 98 (omega arith) of_nothing
+other_size (Some person) short = of_text _ _ 96 (of_name _ _ 0 short of_nothing)
+
+wanting_size : (w : Wanting) → IsWantingInRange w → size (wanting_parts w) ≤ 517
+unfolding wanting_parts
+wanting_size w h = more _ 226 517 (omega arith) (both _ _ 128 98 (both _ _ 19 109 (approvals_size w) (author_size w.author h.author)) (other_size w.by h.given))
+
+approval_size : (waits : Option Waiting) → IfSome waits IsWaitingInRange → size (approval_parts waits) ≤ 517
+approval_size None h = fixed_size _ 517 (lit≤ tt)
+approval_size (Some (waiting.Request n approval)) h = wanting_size approval h.1
+approval_size (Some (waiting.Stack stack approval rows first)) h = wanting_size approval h.1
+approval_size (Some (waiting.Free n)) h = fixed_size _ 517 (lit≤ tt)
+approval_size (Some (waiting.Locked n lock)) h = fixed_size _ 517 (lit≤ tt)
+approval_size (Some (waiting.Doubtful n)) h = fixed_size _ 517 (lit≤ tt)
+approval_size (Some (waiting.Step execution procedure step is_countersigned)) h = fixed_size _ 517 (lit≤ tt)
+
+step_size : (waits : Option Waiting) (text : List ℕ) → IfSome waits IsWaitingInRange → length text ≤ 80 → size (step_parts waits text) ≤ 517
+step_size None text h few = fixed_size _ 517 (lit≤ tt)
+step_size (Some (waiting.Request n approval)) text h few = fixed_size _ 517 (lit≤ tt)
+step_size (Some (waiting.Stack stack approval rows first)) text h few = fixed_size _ 517 (lit≤ tt)
+step_size (Some (waiting.Free n)) text h few = fixed_size _ 517 (lit≤ tt)
+step_size (Some (waiting.Locked n lock)) text h few = fixed_size _ 517 (lit≤ tt)
+step_size (Some (waiting.Doubtful n)) text h few = fixed_size _ 517 (lit≤ tt)
+step_size (Some (waiting.Step execution procedure step is_countersigned)) text h few = due_size step is_countersigned text h.2 few
+
+lock_size : (waits : Option Waiting) → IfSome waits IsWaitingInRange → size (lock_parts waits) ≤ 119
+lock_size None h = more [] 0 119 (omega arith) of_nothing
+lock_size (Some (waiting.Request n approval)) h = more [] 0 119 (omega arith) of_nothing
+lock_size (Some (waiting.Stack stack approval rows first)) h = more [] 0 119 (omega arith) of_nothing
+lock_size (Some (waiting.Free n)) h = more [] 0 119 (omega arith) of_nothing
+lock_size (Some (waiting.Locked n lock)) h = line_size lock h.1 h.2
+lock_size (Some (waiting.Doubtful n)) h = more [] 0 119 (omega arith) of_nothing
+lock_size (Some (waiting.Step execution procedure step is_countersigned)) h = more [] 0 119 (omega arith) of_nothing
+
+forever_size : (waits : Option Waiting) → IfSome waits IsWaitingInRange → size (forever_parts waits) ≤ 517
+unfolding forever_parts
+forever_size waits h = more _ 219 517 (omega arith) (both _ _ 169 50 (both _ _ 50 119 (fixed_size _ 50 (lit≤ tt)) (lock_size waits h)) (fixed_size _ 50 (lit≤ tt)))
+
+locked_size : (waits : Option Waiting) → IfSome waits IsWaitingInRange → size (locked_parts waits) ≤ 517
+unfolding locked_parts
+locked_size waits h = more _ 219 517 (omega arith) (both _ _ 169 50 (both _ _ 50 119 (fixed_size _ 50 (lit≤ tt)) (lock_size waits h)) (fixed_size _ 50 (lit≤ tt)))
+
+says_size : (kind : UrgentKind) (waits : Option Waiting) (text : List ℕ) → insert_in kind < 2 ^ 32 → IfSome waits IsWaitingInRange → length text ≤ 80 → size (says_parts kind waits text) ≤ 517
+says_size InDoubt waits text small h few = fixed_size _ 517 (kind_says_size InDoubt)
+says_size FailedSince waits text small h few = fixed_size _ 517 (kind_says_size FailedSince)
+says_size Approval waits text small h few = approval_size waits h
+says_size StepDue waits text small h few = step_size waits text h few
+says_size Flying waits text small h few = fixed_size _ 517 (kind_says_size Flying)
+says_size LostReport waits text small h few = fixed_size _ 517 (kind_says_size LostReport)
+says_size Free waits text small h few = fixed_size _ 517 (kind_says_size Free)
+says_size (ActivityOf insert) waits text small h few = more _ 53 517 (omega arith) (insert_size insert small)
+says_size LockedForever waits text small h few = forever_size waits h
+says_size Locked waits text small h few = locked_size waits h
+
+same_size : (same : ℕ) → same < 2 ^ 32 → size (same_parts same) ≤ 27
+unfolding same_parts
+same_size same small = chosen (nat_lt 0 same) _ _ 27 (of_text _ _ 19 (of_u32 _ _ 9 small (of_text _ _ 0 of_nothing))) (more [] 0 27 (omega arith) of_nothing)
+
+group_size : (name : Option (List ℕ)) → IfSome name IsShort → size (group_parts name) ≤ 100
+unfolding group_parts
+group_size None h = more [] 0 100 (omega arith) of_nothing
+group_size (Some name) short = of_text _ _ 96 (of_name _ _ 0 short of_nothing)
+
+group_short : (waits : Option Waiting) (stack : Option (List ℕ)) → IfSome waits IsWaitingInRange → IfSome stack IsShort → IfSome (group_of waits stack) IsShort
+group_short None stack h short = short
+group_short (Some (waiting.Request n approval)) stack h short = short
+group_short (Some (waiting.Stack name approval rows first)) stack h short = short
+group_short (Some (waiting.Free n)) stack h short = short
+group_short (Some (waiting.Locked n lock)) stack h short = short
+group_short (Some (waiting.Doubtful n)) stack h short = short
+group_short (Some (waiting.Step execution procedure step is_countersigned)) stack h short = h.1
 
 critical_size : (critical : Bool) → size (critical_parts critical) ≤ 25
 unfolding critical_parts
@@ -163,39 +248,55 @@ marked_size : (critical : Bool) → size (marked_parts critical) ≤ 26
 unfolding marked_parts
 marked_size critical = chosen critical _ _ 26 (both _ _ 1 25 (fixed_size _ 1 (lit≤ tt)) (critical_size critical)) (more [] 0 26 (omega arith) of_nothing)
 
-other_size : (by : Option (List ℕ)) → IfSome by IsShort → size (other_parts by) ≤ 98
-unfolding other_parts
-other_size None h = more [] 0 98 (omega arith) of_nothing
-other_size (Some person) short = of_text _ _ 96 (of_name _ _ 0 short of_nothing)
+on_board_size : (b : Option OnBoard) → IfSome b IsOnBoardInRange → size (on_board_parts b) ≤ 45
+on_board_size None h = unfold on_board_parts in fixed_size _ 45 (lit≤ tt)
+on_board_size (Some b) h = known_size b h
 
-barred_size : (w : Wanting) → IsWantingInRange w → size (barred_parts w) ≤ 218
-unfolding barred_parts
-barred_size w h = both _ _ 207 11 (both _ _ 109 98 (author_size w.author h.author) (other_size w.by h.given)) (fixed_size _ 11 (lit≤ tt))
+begin_size : (row : UrgentRow) → IsUrgentInRange row → size (begin_parts row) ≤ 273
+unfolding begin_parts
+begin_size row h = both _ _ 228 45 (both _ _ 202 26 (both _ _ 102 100 (both _ _ 75 27 (subject_size row.line.kind row.line.number h.line.number) (same_size row.line.same h.line.same))
+    (group_size _ (group_short row.waiting row.line.stack h.waits h.line.stack))) (marked_size row.critical)) (on_board_size row.line.on_board h.line.on_board)
 
-request_size : (n : ℕ) (w : Wanting) → n < 2 ^ 32 → IsWantingInRange w → size (request_parts n w) ≤ 323
-unfolding request_parts
-request_size n w small h = both _ _ 105 218 (both _ _ 77 28 (both _ _ 51 26 (request_begins_size n small) (marked_size w.critical)) (approvals_size w)) (barred_size w h)
+waited_size : (seconds : ℕ) → seconds < 2 ^ 32 → size (waited_parts seconds) ≤ 27
+unfolding waited_parts
+waited_size seconds small = chosen (nat_lt seconds 60) _ _ 27 (of_u32 _ _ 17 small (more _ 2 17 (omega arith) (of_text _ _ 0 of_nothing)))
+    (chosen (nat_lt seconds 3600) _ _ 27 (of_u32 _ _ 17 (omega arith) (more _ 4 17 (omega arith) (of_text _ _ 0 of_nothing)))
+    (chosen (nat_lt seconds 86400) _ _ 27 (two_size _ _ _ _ (omega arith) (omega arith) (lit≤ tt) (lit≤ tt)) (two_size _ _ _ _ (omega arith) (omega arith) (lit≤ tt) (lit≤ tt))))
 
-stack_size : (stack : List ℕ) (w : Wanting) (rows first : ℕ) → IsShort stack → IsWantingInRange w → rows < 2 ^ 32 → first < 2 ^ 32 → size (stack_parts stack w rows first) ≤ 441
-unfolding stack_parts
-stack_size stack w rows first short h few small =
-    both _ _ 223 218 (both _ _ 189 34 (both _ _ 161 28 (both _ _ 135 26 (stack_begins_size stack short) (marked_size w.critical)) (approvals_size w)) (rows_size rows first few small)) (barred_size w h)
+age_size : (b : Option OnBoard) (seconds : ℕ) → seconds < 2 ^ 32 → size (age_parts b seconds) ≤ 27
+age_size None seconds small = more [] 0 27 (omega arith) of_nothing
+age_size (Some b) seconds small = waited_size seconds small
 
-waiting_size : (it : Waiting) (text : List ℕ) → IsWaitingInRange it → length text ≤ 80 → size (waiting_parts it text) ≤ 686
-unfolding waiting_parts
-waiting_size (waiting.Request n approval) text h few = more _ 323 686 (omega arith) (request_size n approval h.0 h.1)
-waiting_size (waiting.Stack stack approval rows first) text h few = more _ 441 686 (omega arith) (stack_size stack approval rows first h.0 h.1 h.2 h.3)
-waiting_size (waiting.Free n) text h few = more _ 94 686 (omega arith) (free_size n h)
-waiting_size (waiting.Locked n lock) text h few = more _ 213 686 (omega arith) (locked_size n lock h.0 h.1 h.2)
-waiting_size (waiting.Doubtful n) text h few = more _ 113 686 (omega arith) (doubt_size n h)
-waiting_size (waiting.Step execution procedure step is_countersigned) text h few = work_size execution procedure step is_countersigned text h.0 h.1 h.2 few
+urgent_size : (row : UrgentRow) → IsUrgentInRange row → size (urgent_parts row) ≤ 837
+unfolding urgent_parts
+urgent_size row h = both _ _ 826 11 (both _ _ 799 27 (both _ _ 790 9 (both _ _ 273 517 (begin_size row h) (says_size row.line.kind row.waiting (text_of row.text) h.line.insert h.waits h.text))
+    (fixed_size _ 9 (lit≤ tt))) (age_size row.line.on_board row.line.waited h.line.waited)) (fixed_size _ 11 (lit≤ tt))
 
-waits_size : (b : Wall) → AllByRecursion IsWaitInRange (take MOST_WAITS b.waits.now) → b.waiting < 2 ^ 64 → size (waits_parts b) ≤ 137719
-unfolding waits_parts
-waits_size b all small =
-    both _ _ 137708 11 (both _ _ 137658 50 (both _ _ 137618 40 (both _ _ 137600 18 (both _ _ 400 137200 (fixed_size WAITS.now 400 (lit≤ tt))
-    (rows_within IsWaitInRange wait_parts (take MOST_WAITS b.waits.now) 686 200 137200 all (λ it h. waiting_size it.waiting (text_of it.text) h.waits h.text) (omega (arith, length-take MOST_WAITS b.waits.now))))
-    (fixed_size _ 18 (lit≤ tt))) (none_size b.waiting _ (lit≤ tt))) (left_out_size b.waiting MOST_WAITS small)) (fixed_size _ 11 (lit≤ tt))
+left_size : (count : ℕ) (words : List ℕ) → count < 2 ^ 64 → length words ≤ 17 → size (left_parts count words) ≤ 75
+unfolding left_parts
+left_size count words small few = chosen (nat_lt 0 count) _ _ 75 (left_some_size count words small few) (more [] 0 75 (omega arith) of_nothing)
+
+count_small : (counts : List ℕ) (k : ℕ) → AllByRecursion (λ n. n < 2 ^ 64) counts → slice_index counts k < 2 ^ 64
+count_small [] k all = omega arith
+count_small (n ∷ counts) zero all = all.0
+count_small (n ∷ counts) (suc k) all = count_small counts k all.1
+
+left_first_size : (left : List ℕ) → AllByRecursion (λ n. n < 2 ^ 64) left → size (left_first_parts left) ≤ 375
+unfolding left_first_parts
+left_first_size left all = both _ _ 300 75 (both _ _ 225 75 (both _ _ 150 75 (both _ _ 75 75 (left_size _ _ (count_small left 0 all) (lit≤ tt)) (left_size _ _ (count_small left 1 all) (lit≤ tt)))
+    (left_size _ _ (count_small left 2 all) (lit≤ tt))) (left_size _ _ (count_small left 3 all) (lit≤ tt))) (left_size _ _ (count_small left 4 all) (lit≤ tt))
+
+left_last_size : (left : List ℕ) → AllByRecursion (λ n. n < 2 ^ 64) left → size (left_last_parts left) ≤ 375
+unfolding left_last_parts
+left_last_size left all = both _ _ 300 75 (both _ _ 225 75 (both _ _ 150 75 (both _ _ 75 75 (left_size _ _ (count_small left 5 all) (lit≤ tt)) (left_size _ _ (count_small left 6 all) (lit≤ tt)))
+    (left_size _ _ (count_small left 7 all) (lit≤ tt))) (left_size _ _ (count_small left 8 all) (lit≤ tt))) (left_size _ _ (count_small left 9 all) (lit≤ tt))
+
+urgents_size : (b : Wall) → AllByRecursion IsUrgentInRange (take MOST_LINES b.urgent.now) → AllByRecursion (λ n. n < 2 ^ 64) b.left.now → size (urgents_parts b) ≤ 126769
+unfolding urgents_parts
+urgents_size b all left =
+    both _ _ 126758 11 (both _ _ 126383 375 (both _ _ 126008 375 (both _ _ 125968 40 (both _ _ 125950 18 (both _ _ 400 125550 (fixed_size URGENT.now 400 (lit≤ tt))
+    (rows_within IsUrgentInRange urgent_parts (take MOST_LINES b.urgent.now) 837 150 125550 all urgent_size (omega (arith, length-take MOST_LINES b.urgent.now))))
+    (fixed_size _ 18 (lit≤ tt))) (none_size b.lines _ (lit≤ tt))) (left_first_size b.left.now left)) (left_last_size b.left.now left)) (fixed_size _ 11 (lit≤ tt))
 
 -- ---- the link, and the schedule
 
@@ -341,27 +442,29 @@ moves_size b all small =
     (rows_within IsMoveInRange move_parts (reverse rows) 252 50 12600 (all_reversed IsMoveInRange rows all) move_size (omega (arith, length-reverse rows, length-drop (length b.moves.now - MOST_MOVES) b.moves.now))))
     (fixed_size _ 18 (lit≤ tt))) (none_size b.moved _ (lit≤ tt))) (left_out_size b.moved MOST_MOVES small)) (fixed_size _ 11 (lit≤ tt))
 
-refresh_size : (live : Option Live) → size (refresh_parts live) ≤ 100
-unfolding refresh_parts
-refresh_size None = more [] 0 100 (omega arith) of_nothing
-refresh_size (Some live) = fixed_size REFRESH.now 100 (lit≤ tt)
+script_size : (live : Option Live) → size (script_parts live) ≤ 4600
+unfolding live_script_parts
+script_size None = fixed_size STRICT.now 4600 (lit≤ tt)
+script_size (Some live) =
+    both _ _ 4500 100 (both _ _ 500 4000 (both _ _ 400 100 (both _ _ 100 300 (fixed_size _ 100 (lit≤ tt)) (fixed_size POLICY.now 300 (lit≤ tt))) (fixed_size LIVE.now 100 (lit≤ tt)))
+    (fixed_size SCRIPT.now 4000 (lit≤ tt))) (fixed_size _ 100 (lit≤ tt))
 
 word_size : (b : Wall) → length (size_word b) ≤ 4
 unfolding size_word
-word_size b = chosen_size (nat_le b.opened MOST_FEW && nat_le (b.waiting + laid_in b.live) MOST_FEW) (codes "few") (codes "many") 4 (lit≤ tt) (lit≤ tt)
+word_size b = chosen_size (nat_le b.opened MOST_FEW && nat_le (b.lines + laid_in b.live) MOST_FEW) (codes "few") (codes "many") 4 (lit≤ tt) (lit≤ tt)
 
-head_size : (b : Wall) → size (head_parts b) ≤ 21200
+head_size : (b : Wall) → size (head_parts b) ≤ 25700
 unfolding head_parts
 head_size b =
-    both _ _ 21197 3 (both _ _ 21193 4 (both _ _ 21159 34 (both _ _ 21059 100 (both _ _ 21000 59 (both _ _ 1000 20000 (fixed_size HEAD.now 1000 (lit≤ tt)) (fixed_size STYLE.now 20000 (lit≤ tt))) (fixed_size _ 59 (lit≤ tt)))
-    (refresh_size b.live)) (fixed_size _ 34 (lit≤ tt))) (fixed_size _ 4 (word_size b))) (fixed_size _ 3 (lit≤ tt))
+    both _ _ 25697 3 (both _ _ 25693 4 (both _ _ 25659 34 (both _ _ 21059 4600 (both _ _ 21000 59 (both _ _ 1000 20000 (fixed_size HEAD.now 1000 (lit≤ tt)) (fixed_size STYLE.now 20000 (lit≤ tt))) (fixed_size _ 59 (lit≤ tt)))
+    (script_size b.live)) (fixed_size _ 34 (lit≤ tt))) (fixed_size _ 4 (word_size b))) (fixed_size _ 3 (lit≤ tt))
 
-whole_size : (b : Wall) → IsWallInRange b → size (page b) ≤ 442451
+whole_size : (b : Wall) → IsWallInRange b → size (page b) ≤ 436145
 unfolding page
 whole_size b h =
-    both _ _ 442151 300 (both _ _ 429032 13119 (both _ _ 165298 263734 (both _ _ 160900 4398 (both _ _ 23181 137719 (both _ _ 21600 1581 (both _ _ 21200 400 (head_size b) (heading_size b h.entered h.opening h.last)) (tiles_size b.counts.now h.counts))
-    (waits_size b h.waits h.waits_count)) (live_size b.live h.live)) (ways_size b h.ways h.ways_count)) (moves_size b h.moves h.moves_count)) (fixed_size FOOT.now 300 (lit≤ tt))
+    both _ _ 435845 300 (both _ _ 422726 13119 (both _ _ 158992 263734 (both _ _ 154594 4398 (both _ _ 27825 126769 (both _ _ 26244 1581 (both _ _ 25700 544 (head_size b) (heading_size b h.entered h.opening h.last)) (tiles_size b.counts.now b.failed h.counts))
+    (urgents_size b h.urgent h.left)) (live_size b.live h.live)) (ways_size b h.ways h.ways_count)) (moves_size b h.moves h.moves_count)) (fixed_size FOOT.now 300 (lit≤ tt))
 
 pub page_size : (b : Wall) → IsWallInRange b → length (wall_page b) ≤ MOST_BYTES
 unfolding wall_page size
-page_size b h = more (page b) 442451 MOST_BYTES (lit≤ tt) (whole_size b h)
+page_size b h = more (page b) 436145 MOST_BYTES (lit≤ tt) (whole_size b h)

@@ -12,24 +12,29 @@ use Rattle.tc_types.specs.declared.requests.Identity.{Identity}
 use Rattle.tc_types.specs.declared.link.activities.ListedActivity.{ListedActivity}
 use Rattle.tc_types.specs.Lines.{place_name, from_word, cause_name}
 use Rattle.tc_types.specs.declared.waits.Lock.{Lock}
+use Rattle.tc_urgent.specs.declared.kinds.UrgentKind.{UrgentKind}
+use Rattle.tc_urgent.specs.declared.kinds.UrgentKind.TheVariants.{InDoubt, FailedSince, Approval, StepDue, Flying, LostReport, Free, ActivityOf, LockedForever, Locked}
+use Rattle.tc_urgent.specs.declared.lines.OnBoard.{OnBoard}
 use Rattle.tc_types.specs.declared.waits.Wanting.{Wanting}
 use Rattle.tc_types.specs.WaitingLines.{given, wanted}
 use Rattle.tc_wall.specs.declared.axes.Mark.{Mark}
 use Rattle.tc_wall.specs.declared.axes.TheConstants.{WIDTH}
 use Rattle.tc_wall.specs.Clock.{clock_text}
 use Rattle.tc_wall.specs.Escapes.{entity, escaped}
-use Rattle.tc_wall.specs.Parts.{Part, Fixed, Number, Time, PlaceWord, FromWord, CauseWord, Count, Row, Person, shown, shown_all}
+use Rattle.tc_wall.specs.Parts.{Part, Fixed, Number, Time, PlaceWord, FromWord, CauseWord, Count, Row, Line, Person, shown, shown_all}
 use Rattle.tc_wall.specs.Signs.{sign_of}
 use Rattle.tc_wall.specs.declared.walls.Opening.{Opening}
 use Rattle.tc_wall.specs.Heading.{entered_parts, moved_parts, opened_parts}
 use Rattle.tc_wall.specs.Tiles.{count_at, zero_word, tile_begins, tile_label, count_parts}
-use Rattle.tc_wall.specs.Waits.{request_begins, stack_begins, approvals_parts, rows_parts, author_parts, free_parts, locked_parts, doubt_parts, whom_word, work_parts}
+use Rattle.tc_wall.specs.Kinds.{kind_begins, kind_class, kind_letter}
+use Rattle.tc_wall.specs.Waits.{activity_parts as insert_parts, approvals_parts, author_parts, kind_says, line_parts, next_parts as due_parts, whom_word}
+use Rattle.tc_wall.specs.Urgents.{left_parts, on_board_parts, subject_parts, two_parts}
 use Rattle.tc_wall.specs.LinkParts.{premise_word, worded_parts, number_parts, share_parts, flies_parts, section_begins, premise_parts}
 use Rattle.tc_wall.specs.ScheduleParts.{enabled_word, enabled_parts, activity_parts}
 use Rattle.tc_wall.specs.WayParts.{service_of, subtype_of}
 use Rattle.tc_wall.specs.WayParts as ways
 use Rattle.tc_wall.specs.MoveParts.{who_parts, what_parts}
-use Rattle.tc_wall.specs.Ranges.{IsShort, IsMoveInRange, IsActivityInRange}
+use Rattle.tc_wall.specs.Ranges.{IsShort, IsMoveInRange, IsActivityInRange, IsOnBoardInRange}
 use Rattle.tc_wall.proofs.EscapeLemmas.{entity_size}
 
 unfoldable pub size : List Part → ℕ
@@ -113,6 +118,58 @@ enabled_word_size : (enabled : Bool) → length (enabled_word enabled) ≤ 8
 unfolding enabled_word
 enabled_word_size enabled = chosen_size enabled _ _ 8 (lit≤ tt) (lit≤ tt)
 
+kind_class_size : (kind : UrgentKind) → length (kind_class kind) ≤ 13
+unfolding kind_class
+kind_class_size InDoubt = lit≤ tt
+kind_class_size FailedSince = lit≤ tt
+kind_class_size Approval = lit≤ tt
+kind_class_size StepDue = lit≤ tt
+kind_class_size Flying = lit≤ tt
+kind_class_size LostReport = lit≤ tt
+kind_class_size Free = lit≤ tt
+kind_class_size (ActivityOf insert) = lit≤ tt
+kind_class_size LockedForever = lit≤ tt
+kind_class_size Locked = lit≤ tt
+
+kind_letter_size : (kind : UrgentKind) → length (kind_letter kind) ≤ 1
+unfolding kind_letter
+kind_letter_size InDoubt = lit≤ tt
+kind_letter_size FailedSince = lit≤ tt
+kind_letter_size Approval = lit≤ tt
+kind_letter_size StepDue = lit≤ tt
+kind_letter_size Flying = lit≤ tt
+kind_letter_size LostReport = lit≤ tt
+kind_letter_size Free = lit≤ tt
+kind_letter_size (ActivityOf insert) = lit≤ tt
+kind_letter_size LockedForever = lit≤ tt
+kind_letter_size Locked = lit≤ tt
+
+kind_begins_size : (kind : UrgentKind) → length (kind_begins kind) ≤ 22
+unfolding kind_begins
+kind_begins_size InDoubt = lit≤ tt
+kind_begins_size FailedSince = lit≤ tt
+kind_begins_size Approval = lit≤ tt
+kind_begins_size StepDue = lit≤ tt
+kind_begins_size Flying = lit≤ tt
+kind_begins_size LostReport = lit≤ tt
+kind_begins_size Free = lit≤ tt
+kind_begins_size (ActivityOf insert) = lit≤ tt
+kind_begins_size LockedForever = lit≤ tt
+kind_begins_size Locked = lit≤ tt
+
+pub kind_says_size : (kind : UrgentKind) → length (kind_says kind) ≤ 517
+unfolding kind_says
+kind_says_size InDoubt = lit≤ tt
+kind_says_size FailedSince = lit≤ tt
+kind_says_size Approval = lit≤ tt
+kind_says_size StepDue = lit≤ tt
+kind_says_size Flying = lit≤ tt
+kind_says_size LostReport = lit≤ tt
+kind_says_size Free = lit≤ tt
+kind_says_size (ActivityOf insert) = lit≤ tt
+kind_says_size LockedForever = lit≤ tt
+kind_says_size Locked = lit≤ tt
+
 small_choice : (b : Bool) (m n : ℕ) → m < 2 ^ 8 → n < 2 ^ 8 → (if b then m else n) < 2 ^ 8
 small_choice true m n first second = first
 small_choice false m n first second = second
@@ -190,6 +247,12 @@ of_row number place parts n small = of_part (Row number place) parts 39 n (row_s
     row_size : (digits : List ℕ) → length digits ≤ 10 → length (codes "<tr id=\"r" ++ digits ++ codes "\" class=\"" ++ place_name place ++ codes "\">") ≤ 39
     row_size digits few = simp length-append (omega (arith, place_name_size place))
 
+pub of_line : (kind : UrgentKind) (number : ℕ) (parts : List Part) (n : ℕ) → number < 2 ^ 32 → size parts ≤ n → size (Line kind number ∷ parts) ≤ 43 + n
+of_line kind number parts n small = of_part (Line kind number) parts 43 n (line_size (decimal number) (length-decimal-le 10 number (omega arith) (omega arith) (omega arith)))
+  where
+    line_size : (digits : List ℕ) → length digits ≤ 10 → length (codes "<tr id=\"" ++ kind_letter kind ++ digits ++ codes "\" class=\"" ++ kind_class kind ++ codes "\">") ≤ 43
+    line_size digits few = simp length-append (omega (arith, kind_letter_size kind, kind_class_size kind, few))
+
 -- ---- groups of parts
 
 pub entered_size : (n : ℕ) → n < 2 ^ 32 → size (entered_parts n) ≤ 33
@@ -212,41 +275,42 @@ pub count_size : (counts : List ℕ) (place : Place) → count_at counts place <
 unfolding count_parts
 count_size counts place small = of_count _ _ _ 0 small of_nothing
 
-pub request_begins_size : (n : ℕ) → n < 2 ^ 32 → size (request_begins n) ≤ 51
-unfolding request_begins
-request_begins_size n small = of_text _ _ 27 (of_words _ 8 _ 19 (sign_size _) (of_text _ _ 10 (of_u32 _ _ 0 small of_nothing)))
-
-pub stack_begins_size : (stack : List ℕ) → IsShort stack → size (stack_begins stack) ≤ 135
-unfolding stack_begins
-stack_begins_size stack short = of_text _ _ 111 (of_words _ 8 _ 103 (sign_size _) (of_text _ _ 96 (of_name _ _ 0 short of_nothing)))
-
-pub approvals_size : (w : Wanting) → size (approvals_parts w) ≤ 28
+pub approvals_size : (w : Wanting) → size (approvals_parts w) ≤ 19
 unfolding approvals_parts
 approvals_size w = of_text _ _ 10 (of_u8 _ _ 7 (given_small w) (of_text _ _ 3 (of_u8 _ _ 0 (wanted_small w) of_nothing)))
-
-pub rows_size : (rows first : ℕ) → rows < 2 ^ 32 → first < 2 ^ 32 → size (rows_parts rows first) ≤ 34
-unfolding rows_parts
-rows_size rows first a b = of_text _ _ 27 (of_u32 _ _ 17 a (of_text _ _ 10 (of_u32 _ _ 0 b of_nothing)))
 
 pub author_size : (author : List ℕ) → IsShort author → size (author_parts author) ≤ 109
 unfolding author_parts
 author_size author short = of_text _ _ 96 (of_name _ _ 0 short of_nothing)
 
-pub free_size : (n : ℕ) → n < 2 ^ 32 → size (free_parts n) ≤ 94
-unfolding free_parts
-free_size n small = of_text _ _ 69 (of_words _ 8 _ 61 (sign_size _) (of_text _ _ 52 (of_u32 _ _ 42 small (of_text _ _ 0 of_nothing))))
+pub due_size : (step : ℕ) (is_countersigned : Bool) (text : List ℕ) → step < 2 ^ 32 → length text ≤ 80 → size (due_parts step is_countersigned text) ≤ 517
+unfolding due_parts
+due_size step is_countersigned text small few =
+    of_text _ _ 512 (of_u32 _ _ 502 small (of_text _ _ 500 (of_step _ _ 20 few (of_text _ _ 11 (of_words _ 11 _ 0 (whom_size is_countersigned) of_nothing)))))
 
-pub locked_size : (n : ℕ) (lock : Lock) → n < 2 ^ 32 → lock.line < 2 ^ 32 → IsShort lock.stack → size (locked_parts n lock) ≤ 213
-unfolding locked_parts
-locked_size n lock a b short = of_text _ _ 174 (of_u32 _ _ 164 a (of_text _ _ 140 (of_u32 _ _ 130 b (of_text _ _ 126 (of_name _ _ 30 short (of_text _ _ 0 of_nothing))))))
+pub line_size : (lock : Lock) → lock.line < 2 ^ 32 → IsShort lock.stack → size (line_parts lock) ≤ 119
+unfolding line_parts
+line_size lock small short = of_text _ _ 110 (of_u32 _ _ 100 small (of_text _ _ 96 (of_name _ _ 0 short of_nothing)))
 
-pub doubt_size : (n : ℕ) → n < 2 ^ 32 → size (doubt_parts n) ≤ 113
-unfolding doubt_parts
-doubt_size n small = of_text _ _ 88 (of_words _ 8 _ 80 (sign_size _) (of_text _ _ 71 (of_u32 _ _ 61 small (of_text _ _ 0 of_nothing))))
+pub insert_size : (insert : ℕ) → insert < 2 ^ 32 → size (insert_parts insert) ≤ 53
+unfolding insert_parts
+insert_size insert small = of_text _ _ 41 (of_u32 _ _ 31 small (of_text _ _ 0 of_nothing))
 
-pub work_size : (execution : ℕ) (procedure : List ℕ) (step : ℕ) (is_countersigned : Bool) (text : List ℕ) → execution < 2 ^ 32 → IsShort procedure → step < 2 ^ 32 → length text ≤ 80 → size (work_parts execution procedure step is_countersigned text) ≤ 686
-unfolding work_parts
-work_size execution procedure step is_countersigned text a short b few = of_text _ _ 647 (of_u32 _ _ 637 a (of_text _ _ 633 (of_name _ _ 537 short (of_text _ _ 523 (of_u32 _ _ 513 b (of_text _ _ 511 (of_step _ _ 31 few (of_text _ _ 22 (of_words _ 11 _ 11 (whom_size is_countersigned) (of_text _ _ 0 of_nothing))))))))))
+pub subject_size : (kind : UrgentKind) (n : ℕ) → n < 2 ^ 32 → size (subject_parts kind n) ≤ 75
+unfolding subject_parts
+subject_size kind n small = of_line _ _ _ 32 small (of_words _ 22 _ 10 (kind_begins_size kind) (of_u32 _ _ 0 small of_nothing))
+
+pub known_size : (b : OnBoard) → IsOnBoardInRange b → size (on_board_parts (Some b)) ≤ 45
+unfolding on_board_parts
+known_size b h = of_text _ _ 36 (of_u16 _ _ 31 h.apid (of_text _ _ 30 (of_u16 _ _ 25 h.count (of_text _ _ 16 (of_u8 _ _ 13 h.service (of_text _ _ 12 (of_u8 _ _ 9 h.subtype (of_text _ _ 0 of_nothing))))))))
+
+pub two_size : (n : ℕ) (unit : List ℕ) (less : ℕ) (small : List ℕ) → n < 2 ^ 32 → less < 2 ^ 32 → length unit ≤ 3 → length small ≤ 4 → size (two_parts n unit less small) ≤ 27
+unfolding two_parts
+two_size n unit less small a b d e = of_u32 _ _ 17 a (of_words _ 3 _ 14 d (of_u32 _ _ 4 b (of_words _ 4 _ 0 e of_nothing)))
+
+pub left_some_size : (count : ℕ) (words : List ℕ) → count < 2 ^ 64 → length words ≤ 17
+    → size (Fixed (codes "<p class=\"more\">lines left out: ") ∷ Number count ∷ Fixed (codes " ") ∷ Fixed words ∷ Fixed (codes "</p>\n") ∷ []) ≤ 75
+left_some_size count words small few = of_text _ _ 43 (of_u64 _ _ 23 small (of_text _ _ 22 (of_words _ 17 _ 5 few (of_text _ _ 0 of_nothing))))
 
 pub worded_size : (name words : List ℕ) → length name ≤ 16 → length words ≤ 60 → size (worded_parts name words) ≤ 102
 unfolding worded_parts
@@ -324,6 +388,6 @@ pub what_size : (row : Move) → IsMoveInRange row → size (what_parts row) ≤
 unfolding what_parts
 what_size row h = of_text _ _ 74 (of_u32 _ _ 64 h.request (of_text _ _ 55 (of_from _ _ 46 (of_text _ _ 37 (of_place _ _ 28 (of_text _ _ 19 (of_cause _ _ 11 (of_text _ _ 0 of_nothing))))))))
 
-pub moved_size : (row : Move) → row.seq < 2 ^ 32 → size (moved_parts row) ≤ 69
+pub moved_size : (row : Move) → row.seq < 2 ^ 32 → row.moment < 2 ^ 32 → size (moved_parts row) ≤ 101
 unfolding moved_parts
-moved_size row small = of_text _ _ 53 (of_u32 _ _ 43 small (of_text _ _ 32 (of_time _ _ 13 (of_text _ _ 0 of_nothing))))
+moved_size row small late = of_text _ _ 78 (of_u32 _ _ 68 late (of_text _ _ 53 (of_u32 _ _ 43 small (of_text _ _ 32 (of_time _ _ 13 (of_text _ _ 0 of_nothing))))))

@@ -12,11 +12,16 @@ use Rattle.tc_types.specs.declared.waits.Wanting.{Wanting}
 use Rattle.tc_types.specs.declared.waits.Waiting.{Waiting}
 use Rattle.tc_types.specs.declared.waits.Waiting.TheVariants as waiting
 use Rattle.tc_wall.specs.declared.axes.Mark.{Mark}
+use Rattle.tc_types.specs.declared.waits.Lock.{Lock}
+use Rattle.tc_urgent.specs.declared.kinds.UrgentKind.{UrgentKind}
+use Rattle.tc_urgent.specs.declared.kinds.UrgentKind.TheVariants.{InDoubt, FailedSince, Approval, StepDue, Flying, LostReport, Free, ActivityOf, LockedForever, Locked}
+use Rattle.tc_urgent.specs.declared.lines.OnBoard.{OnBoard}
+use Rattle.tc_wall.specs.declared.walls.UrgentRow.{UrgentRow}
 use Rattle.tc_wall.specs.declared.walls.Way.{Way}
 use Rattle.tc_wall.specs.declared.walls.Live.{Live}
 use Rattle.tc_wall.specs.declared.walls.ShownSchedule.{ShownSchedule}
 use Rattle.tc_wall.specs.declared.walls.Wall.{Wall}
-use Rattle.tc_wall.specs.declared.walls.TheConstants.{MOST_OPEN, MOST_STAGES, MOST_WAITS, MOST_MOVES, MOST_SHOWN_ACTIVITIES}
+use Rattle.tc_wall.specs.declared.walls.TheConstants.{MOST_LINES, MOST_OPEN, MOST_STAGES, MOST_MOVES, MOST_SHOWN_ACTIVITIES}
 use Rattle.tc_wall.specs.declared.links.FopLine.{FopLine}
 use Rattle.tc_wall.specs.declared.links.FarmLine.{FarmLine}
 use Rattle.tc_wall.specs.declared.links.LinkLines.{LinkLines}
@@ -25,15 +30,16 @@ use Rattle.tc_wall.specs.Bounds.{last_of, left_out_parts, none_parts}
 use Rattle.tc_wall.specs.declared.walls.Opening.{Opening}
 use Rattle.tc_wall.specs.Heading.{file_parts, opened_parts, entered_parts, moved_parts, last_parts, heading_parts}
 use Rattle.tc_wall.specs.Tiles.{count_at, tile_begins, tile_label, tile_head_parts, count_parts, next_parts, counts_parts, tile_parts, open_tiles_parts, final_tiles_parts, tiles_parts}
-use Rattle.tc_wall.specs.Waits.{critical_parts, request_begins, stack_begins, marked_parts, approvals_parts, rows_parts, other_parts, author_parts, barred_parts, request_parts, stack_parts, free_parts, locked_parts, doubt_parts, work_parts, waiting_parts, wait_parts, text_of, waits_parts}
+use Rattle.tc_wall.specs.Waits.{activity_parts as insert_parts, approval_parts, approvals_parts, author_parts, forever_parts, kind_says, line_parts, lock_parts, locked_parts, next_parts as due_parts, other_parts, says_parts, step_parts, text_of, wanting_parts}
+use Rattle.tc_wall.specs.Urgents.{age_parts, begin_parts, critical_parts, group_of, group_parts, left_first_parts, left_last_parts, left_parts, marked_parts, on_board_parts, same_parts, subject_parts, two_parts, urgent_parts, urgents_parts, waited_parts}
 use Rattle.tc_wall.specs.LinkParts.{worded_parts, number_parts, share_parts, flies_parts, queue_parts, counter_parts, fop_parts, farm_parts, section_begins, premise_parts, link_parts}
 use Rattle.tc_wall.specs.ScheduleParts.{enabled_parts, activity_parts, known_schedule_parts}
 use Rattle.tc_wall.specs.Axis.{axis_of, lines_of, drawn}
 use Rattle.tc_wall.specs.Bars.{stage_parts, begin_of, bar_parts}
 use Rattle.tc_wall.specs.WayParts as ways
 use Rattle.tc_wall.specs.MoveParts.{who_parts, what_parts, move_parts, moves_parts}
-use Rattle.tc_wall.specs.Page.{refresh_parts, head_parts, live_parts, page}
-use Rattle.tc_wall.specs.Told.{Told, Stand, StandsAt, told, told_all, tile_places, counted, standing, is_count_of, is_row}
+use Rattle.tc_wall.specs.Page.{script_parts, live_script_parts, head_parts, live_parts, page}
+use Rattle.tc_wall.specs.Told.{Told, Stand, StandsAt, Says, told, told_all, tile_places, counted, standing, said, is_count_of, is_row, is_line}
 use Rattle.tc_wall.proofs.ListLemmas.{flat_map-append}
 
 -- these parts tell this
@@ -125,13 +131,94 @@ of_tile : (counts kind label : List ℕ) (first : Place) (places : List Place) �
 unfolding tile_parts
 of_tile counts kind label first places = before _ _ _ (behind _ _ _ (of_tile_head kind label first _) (of_counts counts places)) (of_fixed _)
 
-of_tiles : (counts : List ℕ) → Tells (tiles_parts counts) (map (counted counts) tile_places)
+of_tiles : (counts : List ℕ) (failed : ℕ) → Tells (tiles_parts counts failed) (map (counted counts) tile_places)
 unfolding tiles_parts open_tiles_parts final_tiles_parts
-of_tiles counts = before _ _ _ (both _ _ _ _ (behind _ _ _ (of_fixed _)
+of_tiles counts failed = before _ _ _ (both _ _ _ _ (behind _ _ _ (of_fixed _)
     (both _ _ _ _ (both _ _ _ _ (both _ _ _ _ (both _ _ _ _ (of_tile counts _ _ _ _) (of_tile counts _ _ _ _)) (of_tile counts _ _ _ _)) (of_tile counts _ _ _ _)) (of_tile counts _ _ _ _)))
     (both _ _ _ _ (both _ _ _ _ (of_tile counts _ _ _ _) (of_tile counts _ _ _ _)) (of_tile counts _ _ _ _))) (of_fixed _)
 
--- ---- what waits
+-- ---- what is open
+
+of_other : (by : Option (List ℕ)) → Tells (other_parts by) []
+unfolding other_parts
+of_other None = record { is = refl }
+of_other (Some person) = record { is = refl }
+
+of_wanting : (w : Wanting) → Tells (wanting_parts w) []
+unfolding wanting_parts approvals_parts author_parts
+of_wanting w = quiet _ _ (quiet _ _ (record { is = refl }) (record { is = refl })) (of_other w.by)
+
+of_approval : (waits : Option Waiting) → Tells (approval_parts waits) []
+of_approval None = of_fixed _
+of_approval (Some (waiting.Request n approval)) = of_wanting approval
+of_approval (Some (waiting.Stack stack approval rows first)) = of_wanting approval
+of_approval (Some (waiting.Free n)) = of_fixed _
+of_approval (Some (waiting.Locked n lock)) = of_fixed _
+of_approval (Some (waiting.Doubtful n)) = of_fixed _
+of_approval (Some (waiting.Step execution procedure step is_countersigned)) = of_fixed _
+
+of_due : (step : ℕ) (is_countersigned : Bool) (text : List ℕ) → Tells (due_parts step is_countersigned text) []
+unfolding due_parts
+of_due step is_countersigned text = record { is = refl }
+
+of_step : (waits : Option Waiting) (text : List ℕ) → Tells (step_parts waits text) []
+of_step None text = of_fixed _
+of_step (Some (waiting.Request n approval)) text = of_fixed _
+of_step (Some (waiting.Stack stack approval rows first)) text = of_fixed _
+of_step (Some (waiting.Free n)) text = of_fixed _
+of_step (Some (waiting.Locked n lock)) text = of_fixed _
+of_step (Some (waiting.Doubtful n)) text = of_fixed _
+of_step (Some (waiting.Step execution procedure step is_countersigned)) text = of_due step is_countersigned text
+
+of_line : (lock : Lock) → Tells (line_parts lock) []
+unfolding line_parts
+of_line lock = record { is = refl }
+
+of_lock : (waits : Option Waiting) → Tells (lock_parts waits) []
+of_lock None = record { is = refl }
+of_lock (Some (waiting.Request n approval)) = record { is = refl }
+of_lock (Some (waiting.Stack stack approval rows first)) = record { is = refl }
+of_lock (Some (waiting.Free n)) = record { is = refl }
+of_lock (Some (waiting.Locked n lock)) = of_line lock
+of_lock (Some (waiting.Doubtful n)) = record { is = refl }
+of_lock (Some (waiting.Step execution procedure step is_countersigned)) = record { is = refl }
+
+of_forever : (waits : Option Waiting) → Tells (forever_parts waits) []
+unfolding forever_parts
+of_forever waits = quiet _ _ (quiet _ _ (of_fixed _) (of_lock waits)) (of_fixed _)
+
+of_locked : (waits : Option Waiting) → Tells (locked_parts waits) []
+unfolding locked_parts
+of_locked waits = quiet _ _ (quiet _ _ (of_fixed _) (of_lock waits)) (of_fixed _)
+
+of_insert : (insert : ℕ) → Tells (insert_parts insert) []
+unfolding insert_parts
+of_insert insert = record { is = refl }
+
+of_says : (kind : UrgentKind) (waits : Option Waiting) (text : List ℕ) → Tells (says_parts kind waits text) []
+of_says InDoubt waits text = of_fixed _
+of_says FailedSince waits text = of_fixed _
+of_says Approval waits text = of_approval waits
+of_says StepDue waits text = of_step waits text
+of_says Flying waits text = of_fixed _
+of_says LostReport waits text = of_fixed _
+of_says Free waits text = of_fixed _
+of_says (ActivityOf insert) waits text = of_insert insert
+of_says LockedForever waits text = of_forever waits
+of_says Locked waits text = of_locked waits
+
+of_subject : (kind : UrgentKind) (n : ℕ) → Tells (subject_parts kind n) (Says kind n ∷ [])
+unfolding subject_parts
+of_subject kind n = record { is = refl }
+
+of_same : (same : ℕ) → Tells (same_parts same) []
+unfolding same_parts
+of_same same = of_choice (nat_lt 0 same) _ _ (record { is = refl }) (record { is = refl })
+
+of_group : (name : Option (List ℕ)) → Tells (group_parts name) []
+unfolding group_parts
+of_group None = record { is = refl }
+of_group (Some name) = record { is = refl }
 
 of_critical : (critical : Bool) → Tells (critical_parts critical) []
 unfolding critical_parts
@@ -141,56 +228,50 @@ of_marked : (critical : Bool) → Tells (marked_parts critical) []
 unfolding marked_parts
 of_marked critical = of_choice critical _ _ (quiet _ _ (of_fixed _) (of_critical critical)) (record { is = refl })
 
-of_request_begins : (n : ℕ) → Tells (request_begins n) []
-unfolding request_begins
-of_request_begins n = record { is = refl }
+of_on_board : (b : Option OnBoard) → Tells (on_board_parts b) []
+unfolding on_board_parts
+of_on_board None = of_fixed _
+of_on_board (Some b) = record { is = refl }
 
-of_stack_begins : (stack : List ℕ) → Tells (stack_begins stack) []
-unfolding stack_begins
-of_stack_begins stack = record { is = refl }
+of_begin : (row : UrgentRow) → Tells (begin_parts row) (said row ∷ [])
+unfolding begin_parts
+of_begin row = before _ _ _ (before _ _ _ (before _ _ _ (before _ _ _ (of_subject row.line.kind row.line.number) (of_same row.line.same)) (of_group (group_of row.waiting row.line.stack)))
+    (of_marked row.critical)) (of_on_board row.line.on_board)
 
-of_approvals : (w : Wanting) → Tells (approvals_parts w) []
-unfolding approvals_parts
-of_approvals w = record { is = refl }
+of_waited : (seconds : ℕ) → Tells (waited_parts seconds) []
+unfolding waited_parts two_parts
+of_waited seconds = of_choice (nat_lt seconds 60) _ _ (record { is = refl }) (of_choice (nat_lt seconds 3600) _ _ (record { is = refl })
+    (of_choice (nat_lt seconds 86400) _ _ (record { is = refl }) (record { is = refl })))
 
-of_rows : (rows first : ℕ) → Tells (rows_parts rows first) []
-unfolding rows_parts
-of_rows rows first = record { is = refl }
+of_age : (b : Option OnBoard) (seconds : ℕ) → Tells (age_parts b seconds) []
+of_age None seconds = record { is = refl }
+of_age (Some b) seconds = of_waited seconds
 
-of_other : (by : Option (List ℕ)) → Tells (other_parts by) []
-unfolding other_parts
-of_other None = record { is = refl }
-of_other (Some person) = record { is = refl }
+of_urgent : (row : UrgentRow) → Tells (urgent_parts row) (said row ∷ [])
+unfolding urgent_parts
+of_urgent row = before _ _ _ (before _ _ _ (before _ _ _ (before _ _ _ (of_begin row) (of_says row.line.kind row.waiting (text_of row.text))) (of_fixed _))
+    (of_age row.line.on_board row.line.waited)) (of_fixed _)
 
-of_author : (author : List ℕ) → Tells (author_parts author) []
-unfolding author_parts
-of_author author = record { is = refl }
+of_urgent_rows : (rows : List UrgentRow) → Tells (flat_map urgent_parts rows) (map said rows)
+of_urgent_rows [] = record { is = refl }
+of_urgent_rows (row ∷ rows) = both (urgent_parts row) _ _ _ (of_urgent row) (of_urgent_rows rows)
 
-of_barred : (w : Wanting) → Tells (barred_parts w) []
-unfolding barred_parts
-of_barred w = quiet _ _ (quiet _ _ (of_author w.author) (of_other w.by)) (of_fixed _)
+of_left : (count : ℕ) (words : List ℕ) → Tells (left_parts count words) []
+unfolding left_parts
+of_left count words = of_choice (nat_lt 0 count) _ _ (record { is = refl }) (record { is = refl })
 
-of_request : (n : ℕ) (w : Wanting) → Tells (request_parts n w) []
-unfolding request_parts
-of_request n w = quiet _ _ (quiet _ _ (quiet _ _ (of_request_begins n) (of_marked w.critical)) (of_approvals w)) (of_barred w)
+of_left_first : (left : List ℕ) → Tells (left_first_parts left) []
+unfolding left_first_parts
+of_left_first left = quiet _ _ (quiet _ _ (quiet _ _ (quiet _ _ (of_left _ _) (of_left _ _)) (of_left _ _)) (of_left _ _)) (of_left _ _)
 
-of_stack : (stack : List ℕ) (w : Wanting) (rows first : ℕ) → Tells (stack_parts stack w rows first) []
-unfolding stack_parts
-of_stack stack w rows first = quiet _ _ (quiet _ _ (quiet _ _ (quiet _ _ (of_stack_begins stack) (of_marked w.critical)) (of_approvals w)) (of_rows rows first)) (of_barred w)
+of_left_last : (left : List ℕ) → Tells (left_last_parts left) []
+unfolding left_last_parts
+of_left_last left = quiet _ _ (quiet _ _ (quiet _ _ (quiet _ _ (of_left _ _) (of_left _ _)) (of_left _ _)) (of_left _ _)) (of_left _ _)
 
-of_waiting : (it : Waiting) (text : List ℕ) → Tells (waiting_parts it text) []
-unfolding waiting_parts free_parts locked_parts doubt_parts work_parts
-of_waiting (waiting.Request n approval) text = of_request n approval
-of_waiting (waiting.Stack stack approval rows first) text = of_stack stack approval rows first
-of_waiting (waiting.Free n) text = record { is = refl }
-of_waiting (waiting.Locked n lock) text = record { is = refl }
-of_waiting (waiting.Doubtful n) text = record { is = refl }
-of_waiting (waiting.Step execution procedure step is_countersigned) text = record { is = refl }
-
-of_waits : (b : Wall) → Tells (waits_parts b) []
-unfolding waits_parts
-of_waits b = quiet _ _ (quiet _ _ (quiet _ _ (quiet _ _ (quiet _ _ (of_fixed _)
-    (quiet_rows wait_parts (take MOST_WAITS b.waits.now) (λ it. of_waiting it.waiting (text_of it.text)))) (of_fixed _)) (of_none b.waiting _)) (of_left_out b.waiting MOST_WAITS)) (of_fixed _)
+of_urgents : (b : Wall) → Tells (urgents_parts b) (map said (take MOST_LINES b.urgent.now))
+unfolding urgents_parts
+of_urgents b = before _ _ _ (before _ _ _ (before _ _ _ (before _ _ _ (before _ _ _ (behind _ _ _ (of_fixed _) (of_urgent_rows (take MOST_LINES b.urgent.now))) (of_fixed _))
+    (of_none b.lines _)) (of_left_first b.left.now)) (of_left_last b.left.now)) (of_fixed _)
 
 -- ---- the link, and the schedule
 
@@ -343,20 +424,23 @@ unfolding moves_parts
 of_moves b = quiet _ _ (quiet _ _ (quiet _ _ (quiet _ _ (quiet _ _ (of_fixed _)
     (quiet_rows move_parts (reverse (last_of MOST_MOVES b.moves.now)) of_move)) (of_fixed _)) (of_none b.moved _)) (of_left_out b.moved MOST_MOVES)) (of_fixed _)
 
-of_refresh : (live : Option Live) → Tells (refresh_parts live) []
-unfolding refresh_parts
-of_refresh None = record { is = refl }
-of_refresh (Some live) = of_fixed _
+of_script : (live : Option Live) → Tells (script_parts live) []
+unfolding live_script_parts
+of_script None = of_fixed _
+of_script (Some live) = quiet _ _ (quiet _ _ (quiet _ _ (quiet _ _ (of_fixed _) (of_fixed _)) (of_fixed _)) (of_fixed _)) (of_fixed _)
 
 of_head : (b : Wall) → Tells (head_parts b) []
 unfolding head_parts
-of_head b = quiet _ _ (quiet _ _ (quiet _ _ (quiet _ _ (quiet _ _ (quiet _ _ (of_fixed _) (of_fixed _)) (of_fixed _)) (of_refresh b.live)) (of_fixed _)) (of_fixed _)) (of_fixed _)
+of_head b = quiet _ _ (quiet _ _ (quiet _ _ (quiet _ _ (quiet _ _ (quiet _ _ (of_fixed _) (of_fixed _)) (of_fixed _)) (of_script b.live)) (of_fixed _)) (of_fixed _)) (of_fixed _)
 
--- a page tells the count of each place, and then where each request that is open stands
-of_page : (b : Wall) → Tells (page b) (map (counted b.counts.now) tile_places ++ map standing (take MOST_OPEN b.ways.now))
+-- a page tells the count of each place, then each line of what is open, and then where each request that is open stands
+abbrev page_tells : Wall → List Told
+page_tells b = map (counted b.counts.now) tile_places ++ map said (take MOST_LINES b.urgent.now) ++ map standing (take MOST_OPEN b.ways.now)
+
+of_page : (b : Wall) → Tells (page b) (page_tells b)
 unfolding page
 of_page b =
-    before _ _ _ (before _ _ _ (both _ _ _ _ (before _ _ _ (before _ _ _ (behind _ _ _ (quiet _ _ (of_head b) (of_heading b)) (of_tiles b.counts.now)) (of_waits b)) (of_live b.live)) (of_ways b)) (of_moves b)) (of_fixed _)
+    before _ _ _ (before _ _ _ (both _ _ _ _ (before _ _ _ (both _ _ _ _ (behind _ _ _ (quiet _ _ (of_head b) (of_heading b)) (of_tiles b.counts.now b.failed)) (of_urgents b)) (of_live b.live)) (of_ways b)) (of_moves b)) (of_fixed _)
 
 -- ---- what is looked for in it
 
@@ -372,9 +456,34 @@ no_counts : (place : Place) (shown : List Way) → filter (is_count_of place) (m
 no_counts place [] = refl
 no_counts place (way ∷ others) = no_counts place others
 
+no_counts_said : (place : Place) (rows : List UrgentRow) → filter (is_count_of place) (map said rows) ≡ []
+no_counts_said place [] = refl
+no_counts_said place (row ∷ rows) = no_counts_said place rows
+
 all_rows : (shown : List Way) → filter is_row (map standing shown) ≡ map standing shown
 all_rows [] = refl
 all_rows (way ∷ others) = ap (λ l. standing way ∷ l) (all_rows others)
+
+no_rows_said : (rows : List UrgentRow) → filter is_row (map said rows) ≡ []
+no_rows_said [] = refl
+no_rows_said (row ∷ rows) = no_rows_said rows
+
+all_lines : (rows : List UrgentRow) → filter is_line (map said rows) ≡ map said rows
+all_lines [] = refl
+all_lines (row ∷ rows) = ap (λ l. said row ∷ l) (all_lines rows)
+
+no_lines_stand : (shown : List Way) → filter is_line (map standing shown) ≡ []
+no_lines_stand [] = refl
+no_lines_stand (way ∷ others) = no_lines_stand others
+
+-- what is looked for in each of the three
+parted : (p : Told → Bool) (b : Wall) → filter p (told_all (page b))
+    ≡ filter p (map (counted b.counts.now) tile_places) ++ filter p (map said (take MOST_LINES b.urgent.now)) ++ filter p (map standing (take MOST_OPEN b.ways.now))
+parted p b =
+    let counts = map (counted b.counts.now) tile_places in
+    let lines = map said (take MOST_LINES b.urgent.now) in
+    let rows = map standing (take MOST_OPEN b.ways.now) in
+    ap (filter p) (of_page b).is ∙ filter-append p (counts ++ lines) rows ∙ ap (λ x. x ++ filter p rows) (filter-append p counts lines)
 
 of_its_place : (counts : List ℕ) (place : Place) → filter (is_count_of place) (map (counted counts) tile_places) ≡ Stand place (count_at counts place) ∷ []
 of_its_place counts Entered = refl
@@ -395,12 +504,13 @@ of_its_place counts Closed = refl
 
 pub one_count : (b : Wall) (place : Place) → filter (is_count_of place) (told_all (page b)) ≡ Stand place (count_at b.counts.now place) ∷ []
 one_count b place =
-    ap (filter (is_count_of place)) (of_page b).is
-    ∙ filter-append (is_count_of place) (map (counted b.counts.now) tile_places) (map standing (take MOST_OPEN b.ways.now))
-    ∙ ap₂ (λ x y. x ++ y) (of_its_place b.counts.now place) (no_counts place (take MOST_OPEN b.ways.now))
+    parted (is_count_of place) b
+    ∙ ap₂ (λ x y. x ++ y) (ap₂ (λ x y. x ++ y) (of_its_place b.counts.now place) (no_counts_said place (take MOST_LINES b.urgent.now))) (no_counts place (take MOST_OPEN b.ways.now))
 
 pub all_ways : (b : Wall) → filter is_row (told_all (page b)) ≡ map standing (take MOST_OPEN b.ways.now)
-all_ways b =
-    ap (filter is_row) (of_page b).is
-    ∙ filter-append is_row (map (counted b.counts.now) tile_places) (map standing (take MOST_OPEN b.ways.now))
-    ∙ all_rows (take MOST_OPEN b.ways.now)
+all_ways b = parted is_row b ∙ ap₂ (λ x y. x ++ y) (no_rows_said (take MOST_LINES b.urgent.now)) (all_rows (take MOST_OPEN b.ways.now))
+
+pub each_line : (b : Wall) → filter is_line (told_all (page b)) ≡ map said (take MOST_LINES b.urgent.now)
+each_line b =
+    parted is_line b ∙ ap₂ (λ x y. x ++ y) (all_lines (take MOST_LINES b.urgent.now)) (no_lines_stand (take MOST_OPEN b.ways.now))
+    ∙ append-nil (map said (take MOST_LINES b.urgent.now))

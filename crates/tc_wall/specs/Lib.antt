@@ -1,11 +1,13 @@
 pub mod Clock
 pub mod Escapes
+pub mod Kinds
 pub mod Parts
 pub mod Signs
 pub mod Bounds
 pub mod Heading
 pub mod Tiles
 pub mod Waits
+pub mod Urgents
 pub mod LinkParts
 pub mod ScheduleParts
 pub mod Axis

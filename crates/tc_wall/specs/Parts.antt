@@ -5,8 +5,10 @@ use Rattle.std.specs.Fmt.{decimal}
 use Rattle.tc_types.specs.declared.history.places.Place.{Place}
 use Rattle.tc_types.specs.declared.history.causes.Cause.{Cause}
 use Rattle.tc_types.specs.Lines.{place_name, from_word, cause_name}
+use Rattle.tc_urgent.specs.declared.kinds.UrgentKind.{UrgentKind}
 use Rattle.tc_wall.specs.Clock.{clock_text}
 use Rattle.tc_wall.specs.Escapes.{escaped}
+use Rattle.tc_wall.specs.Kinds.{kind_class, kind_letter}
 
 -- A part of a page. A text that a person typed stands on it as `Person` alone.
 pub data Part : Type 0 where
@@ -23,6 +25,8 @@ pub data Part : Type 0 where
   Count : Place → ℕ → Part
   -- the row of a request begins: its number, and where it stands
   Row : ℕ → Place → Part
+  -- the row of a line of what is open begins: its kind, and the number of its request or execution
+  Line : UrgentKind → ℕ → Part
   -- a text that a person typed
   Person : List ℕ → Part
 
@@ -36,6 +40,8 @@ shown (FromWord from) = from_word from
 shown (CauseWord cause) = cause_name cause
 shown (Count place n) = place_name place ++ 32 ∷ decimal n
 shown (Row n place) = codes "<tr id=\"r" ++ decimal n ++ codes "\" class=\"" ++ place_name place ++ codes "\">"
+shown (Line kind n) =
+    codes "<tr id=\"" ++ kind_letter kind ++ decimal n ++ codes "\" class=\"" ++ kind_class kind ++ codes "\">"
 shown (Person text) = escaped text
 
 -- those of all parts, joined

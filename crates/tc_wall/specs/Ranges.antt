@@ -8,13 +8,17 @@ use Rattle.tc_types.specs.declared.link.activities.ListedActivity.{ListedActivit
 use Rattle.tc_types.specs.declared.waits.Wanting.{Wanting}
 use Rattle.tc_types.specs.declared.waits.Waiting.{Waiting}
 use Rattle.tc_types.specs.declared.waits.Waiting.TheVariants as waiting
-use Rattle.tc_wall.specs.declared.walls.Wait.{Wait}
+use Rattle.tc_urgent.specs.declared.kinds.UrgentKind.{UrgentKind}
+use Rattle.tc_urgent.specs.declared.lines.OnBoard.{OnBoard}
+use Rattle.tc_urgent.specs.declared.lines.UrgentLine.{UrgentLine}
+use Rattle.tc_urgent.specs.Kinds.{insert_in}
+use Rattle.tc_wall.specs.declared.walls.UrgentRow.{UrgentRow}
 use Rattle.tc_wall.specs.declared.walls.Way.{Way}
 use Rattle.tc_wall.specs.declared.walls.ShownSchedule.{ShownSchedule}
 use Rattle.tc_wall.specs.declared.walls.Live.{Live}
 use Rattle.tc_wall.specs.declared.walls.Opening.{Opening}
 use Rattle.tc_wall.specs.declared.walls.Wall.{Wall}
-use Rattle.tc_wall.specs.declared.walls.TheConstants.{MOST_OPEN, MOST_WAITS, MOST_MOVES, MOST_SHOWN_ACTIVITIES}
+use Rattle.tc_wall.specs.declared.walls.TheConstants.{MOST_OPEN, MOST_LINES, MOST_MOVES, MOST_SHOWN_ACTIVITIES}
 use Rattle.tc_wall.specs.declared.links.FopLine.{FopLine}
 use Rattle.tc_wall.specs.declared.links.FarmLine.{FarmLine}
 use Rattle.tc_wall.specs.declared.links.LinkLines.{LinkLines}
@@ -43,9 +47,24 @@ IsWaitingInRange (waiting.Locked n lock) = (n < 2 ^ 32) × (lock.line < 2 ^ 32) 
 IsWaitingInRange (waiting.Doubtful n) = n < 2 ^ 32
 IsWaitingInRange (waiting.Step execution procedure step is_countersigned) = (execution < 2 ^ 32) × IsShort procedure × (step < 2 ^ 32)
 
-pub record IsWaitInRange (it : Wait) : Type 0 where
-  pub waits : IsWaitingInRange it.waiting
-  pub text : length (text_of it.text) ≤ 80
+pub record IsOnBoardInRange (b : OnBoard) : Type 0 where
+  pub apid : b.identity.apid < 2 ^ 16
+  pub count : b.identity.count < 2 ^ 16
+  pub service : b.service < 2 ^ 8
+  pub subtype : b.subtype < 2 ^ 8
+
+pub record IsLineInRange (line : UrgentLine) : Type 0 where
+  pub number : line.number < 2 ^ 32
+  pub insert : insert_in line.kind < 2 ^ 32
+  pub on_board : IfSome line.on_board IsOnBoardInRange
+  pub stack : IfSome line.stack IsShort
+  pub waited : line.waited < 2 ^ 32
+  pub same : line.same < 2 ^ 32
+
+pub record IsUrgentInRange (row : UrgentRow) : Type 0 where
+  pub line : IsLineInRange row.line
+  pub waits : IfSome row.waiting IsWaitingInRange
+  pub text : length (text_of row.text) ≤ 80
 
 pub record IsOriginInRange (origin : Origin) : Type 0 where
   pub stack : IsShort origin.stack
@@ -107,15 +126,20 @@ pub record IsLiveInRange (live : Live) : Type 0 where
   pub link : IsLinkInRange live.link
   pub schedule : IsScheduleInRange live.schedule
 
+pub record IsLastInRange (row : Move) : Type 0 where
+  pub seq : row.seq < 2 ^ 32
+  pub moment : row.moment < 2 ^ 32
+
 pub record IsWallInRange (b : Wall) : Type 0 where
   pub entered : b.entered < 2 ^ 32
   pub counts : AllByRecursion (λ n. n < 2 ^ 32) b.counts.now
-  pub waits : AllByRecursion IsWaitInRange (take MOST_WAITS b.waits.now)
-  pub waits_count : b.waiting < 2 ^ 64
+  pub urgent : AllByRecursion IsUrgentInRange (take MOST_LINES b.urgent.now)
+  pub lines_count : b.lines < 2 ^ 64
+  pub left : AllByRecursion (λ n. n < 2 ^ 64) b.left.now
   pub opening : IfSome b.opening IsOpeningInRange
   pub live : IfSome b.live IsLiveInRange
   pub ways : AllByRecursion IsWayInRange (take MOST_OPEN b.ways.now)
   pub ways_count : b.opened < 2 ^ 64
-  pub last : IfSome (slice_get b.moves.now (length b.moves.now - 1)) (λ row. row.seq < 2 ^ 32)
+  pub last : IfSome (slice_get b.moves.now (length b.moves.now - 1)) IsLastInRange
   pub moves : AllByRecursion IsMoveInRange (last_of MOST_MOVES b.moves.now)
   pub moves_count : b.moved < 2 ^ 64

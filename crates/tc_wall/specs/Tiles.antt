@@ -1,5 +1,5 @@
 -- The tiles: how many requests stand where. Each has the sum of its places, and each of them with its count.
-use Rattle.std.specs.Prelude.{ℕ, ◌-◌, ◌==◌, if◌then◌else◌, List, [], ◌∷◌, ◌++◌, codes, map, sum, slice_index}
+use Rattle.std.specs.Prelude.{ℕ, ◌-◌, ◌==◌, nat_lt, if◌then◌else◌, List, [], ◌∷◌, ◌++◌, codes, map, sum, slice_index}
 use Rattle.std.specs.List.{flat_map}
 use Rattle.tc_types.specs.declared.history.places.Place.{Place}
 use Rattle.tc_types.specs.declared.history.places.Place.TheVariants.{Entered, Approved, Queued, Sent, Confirmed, Riding, Scheduled, Accepted, Started, Completed, Failed, Doubtful, Withdrawn, Deleted, Closed}
@@ -64,11 +64,15 @@ open_tiles_parts counts =
     ++ place_tile_parts counts (codes "scheduled") (codes "scheduled") Scheduled
     ++ place_tile_parts counts (codes "doubt") (codes "IN DOUBT") Doubtful
 
-unfoldable pub final_tiles_parts : List ℕ → List Part
-final_tiles_parts counts =
-    place_tile_parts counts (codes "failed") (codes "FAILED") Failed
+-- the tile of those that failed stands out if one failed after the opening
+unfoldable pub failed_word : ℕ → List ℕ
+failed_word failed = if nat_lt 0 failed then codes "failed" else codes "past"
+
+unfoldable pub final_tiles_parts : List ℕ → ℕ → List Part
+final_tiles_parts counts failed =
+    place_tile_parts counts (failed_word failed) (codes "FAILED") Failed
     ++ place_tile_parts counts (codes "completed") (codes "completed") Completed
     ++ ended_parts counts
 
-unfoldable pub tiles_parts : List ℕ → List Part
-tiles_parts counts = fixed TILES.now ++ open_tiles_parts counts ++ final_tiles_parts counts ++ fixed (codes "</section>\n")
+unfoldable pub tiles_parts : List ℕ → ℕ → List Part
+tiles_parts counts failed = fixed TILES.now ++ open_tiles_parts counts ++ final_tiles_parts counts failed ++ fixed (codes "</section>\n")

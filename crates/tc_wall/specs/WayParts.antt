@@ -15,7 +15,7 @@ use Rattle.tc_wall.specs.declared.fixed.TheConstants.{WAYS, WAYS_HEAD}
 use Rattle.tc_wall.specs.Parts.{Part, Fixed, Number, Time, PlaceWord, Row, Person, fixed}
 use Rattle.tc_wall.specs.Signs.{sign_of}
 use Rattle.tc_wall.specs.Bounds.{none_parts, left_out_parts}
-use Rattle.tc_wall.specs.Waits.{critical_parts}
+use Rattle.tc_wall.specs.Urgents.{critical_parts}
 use Rattle.tc_wall.specs.Axis.{drawn, axis_of, lines_of}
 use Rattle.tc_wall.specs.Bars.{bar_parts}
 

@@ -1,12 +1,15 @@
 //! The fixed parts of the page. Edit the files of `page/`, and let `tools/page_parts.py` write this one.
 
+/// The policy of an open desk's page: its style and its one script are its own, and it asks its own desk alone.
+pub const POLICY: &str =
+    "default-src 'none'; style-src 'unsafe-inline'; img-src data:; script-src 'sha256-WFnSHxfpE+/yMjL/MjvgVSppN3ZnVsZXNoNEyM0HCH8='; connect-src 'self'";
+
 /// The head of the page, up to its style.
 pub(crate) const HEAD: &str = r##"<!doctype html>
 <html lang="en">
 <head>
 <meta charset="utf-8">
 <meta name="viewport" content="width=device-width">
-<meta http-equiv="Content-Security-Policy" content="default-src 'none'; style-src 'unsafe-inline'; img-src data:">
 <link rel="icon" href="data:,">
 <title>Telecommand desk</title>
 <style>
@@ -24,8 +27,8 @@ pub(crate) const STYLE: &str =
 * { box-sizing: border-box; margin: 0; padding: 0; }
 body {
   display: grid; gap: 6px; padding: 6px; min-height: 100vh;
-  grid-template: "heading heading moves" auto "tiles tiles moves" auto "link link moves" auto "waits ways moves" auto "schedule ways moves" 1fr
-    / fit-content(600px) minmax(0, 1fr) auto;
+  grid-template: "heading heading moves" auto "tiles tiles moves" auto "link link moves" auto "urgent ways moves" auto "schedule ways moves" 1fr
+    / fit-content(700px) minmax(0, 1fr) auto;
   background: var(--ground); color: var(--text);
   font: 13px/18px "DejaVu Sans", Verdana, "Segoe UI", "Helvetica Neue", Arial, sans-serif; font-variant-numeric: tabular-nums;
 }
@@ -39,14 +42,16 @@ table:not(:has(tbody tr)) { display: none; }
 em { font-style: normal; font-weight: bold; white-space: nowrap; }
 .none { color: var(--dim); font-size: 16px; padding: 4px 0; }
 .more { font-weight: bold; padding-top: 2px; }
-.few .waits, .few .ways, .few .schedule { font-size: 16px; line-height: 24px; }
-.few .waits td, .few .ways td { padding-top: 5px; padding-bottom: 5px; }
-.few .waits th, .few .ways th, .few .axis b { font-size: 12px; }
+.few .ways { font-size: 14px; line-height: 20px; }
+.few .ways td { padding-top: 4px; padding-bottom: 4px; }
+.few .schedule { font-size: 16px; line-height: 24px; }
 
 /* (a) the heading */
-header { grid-area: heading; display: flex; gap: 16px; align-items: baseline; }
+header { grid-area: heading; display: flex; flex-wrap: wrap; gap: 0 16px; align-items: baseline; }
 h1 { font-size: 24px; line-height: 34px; flex: 1; white-space: nowrap; }
 header p { color: var(--dim); font-size: 13px; white-space: nowrap; }
+#age { color: var(--text); font-weight: bold; font-size: 14px; margin-left: -10px; }
+#silent { order: -1; flex: 0 0 100%; padding: 6px 12px; background: var(--red); color: #fff; font-size: 26px; line-height: 34px; font-weight: bold; white-space: normal; }
 header b { color: var(--text); font-size: 14px; }
 header .file { background: var(--text); color: var(--ground); font-weight: bold; font-size: 20px; padding: 2px 12px; }
 
@@ -66,19 +71,32 @@ header .file { background: var(--text); color: var(--ground); font-weight: bold;
 .failed { background: var(--red); border-color: #fff; }
 .completed { border-color: var(--green); }
 .doubt, .failed, .doubt small, .failed small { color: #fff; font-weight: bold; }
+.past { border-color: var(--red); }
 .tile.zero { background: var(--panel); border-color: var(--line); border-image: none; color: #71809a; }
 .tile.zero small { color: #71809a; }
 
-/* (c) what waits */
-.waits { grid-area: waits; min-width: 540px; overflow-wrap: break-word; }
-.waits td { vertical-align: top; }
-.waits td:first-child { white-space: nowrap; border-left: 6px solid var(--text); padding-left: 6px; }
-.waits .Entered td:first-child { border-color: var(--orange); }
-.waits .Approved td:first-child { border-color: var(--sky); }
-.waits .Locked td:first-child { border-color: var(--line); }
-.waits .Locked td { color: var(--dim); }
-.waits .Doubtful { background: #5a2800; font-weight: bold; }
-.waits .Doubtful td:first-child { border-color: var(--vermilion); }
+/* (c) what is open */
+.urgent { grid-area: urgent; min-width: 640px; overflow-wrap: break-word; }
+.urgent td { vertical-align: top; }
+.urgent td:first-child { border-left: 6px solid var(--line); padding-left: 6px; }
+.urgent td:nth-child(2), .urgent td:nth-child(3), .urgent td:last-child { white-space: nowrap; }
+.urgent td:last-child, .urgent th:last-child { text-align: right; padding-right: 0; }
+.urgent:not(:has(tbody tr:nth-child(25))) { font-size: 14px; line-height: 20px; }
+.urgent:not(:has(tbody tr:nth-child(25))) td { padding-top: 3px; padding-bottom: 3px; }
+.urgent:not(:has(tbody tr:nth-child(11))) { font-size: 16px; line-height: 24px; }
+.urgent .InDoubt { background: #5a2800; font-weight: bold; }
+.urgent .InDoubt td:first-child { border-color: var(--vermilion); }
+.urgent .FailedSince { background: #5c0012; font-weight: bold; }
+.urgent .FailedSince td:first-child { border-color: #ff5c70; }
+.urgent .LostReport { background: #4a1f38; font-weight: bold; }
+.urgent .LostReport td:first-child { border-color: var(--purple); }
+.urgent .Approval td:first-child { border-color: var(--orange); }
+.urgent .StepDue td:first-child { border-color: var(--text); }
+.urgent .Flying td:first-child { border-color: var(--blue); }
+.urgent .Free td:first-child { border-color: var(--sky); }
+.urgent .LockedForever td:first-child { border-color: #ff5c70; }
+.urgent .LockedForever td:nth-child(4), .urgent .LockedForever td:nth-child(5) { font-weight: bold; }
+.urgent .Activity td, .urgent .Locked td { color: var(--dim); }
 
 /* (d) the link, and the schedule */
 .link { grid-area: link; display: flex; gap: 2px 14px; align-items: center; }
@@ -102,7 +120,7 @@ dd { font-size: 15px; line-height: 20px; white-space: nowrap; }
 .ways td { white-space: nowrap; }
 .ways td.bar, .ways th.bar { width: 100%; min-width: 200px; padding: 0 6px 0 0; }
 .bar svg { display: block; width: 100%; height: 12px; overflow: visible; }
-.few .bar svg { height: 20px; }
+.few .bar svg { height: 16px; }
 .bar svg.lines { height: 3px; }
 .axis { position: relative; height: 28px; }
 .axis b { position: absolute; bottom: 0; width: 6.4em; white-space: normal; font-size: 10px; line-height: 14px; font-weight: normal; }
@@ -133,6 +151,26 @@ rect.Doubtful { fill: url(#hatch); }
   body > * { margin-bottom: 8px; }
   .tiles { grid-template-columns: repeat(4, 1fr); }
 }
+@media (max-width: 700px) {
+  header { display: block; }
+  header p { white-space: normal; }
+  #age { margin: 0; }
+  .tiles { grid-template-columns: repeat(4, 1fr); gap: 4px; }
+  .tile { border-left-width: 5px; padding: 0 2px 2px 4px; overflow-wrap: anywhere; }
+  .tile b { font-size: 24px; line-height: 28px; }
+  .tile i { font-size: 14px; line-height: 24px; }
+  .tile p { font-size: 11px; line-height: 13px; }
+  .tile small { display: none; }
+  .urgent { min-width: 0; padding: 4px; }
+  .urgent thead { display: none; }
+  .urgent tbody tr { display: flex; flex-wrap: wrap; padding: 2px 0; }
+  .urgent td:nth-child(1) { flex: 1 1 auto; }
+  .urgent td:nth-child(4) { flex: 0 0 100%; }
+  .urgent td { padding-left: 12px; }
+  .urgent td:last-child { flex: 1; }
+  .link { display: block; }
+  .ways, .moves { overflow-x: auto; }
+}
 
 @media (min-width: 2500px) { body { zoom: 1.33; min-height: 75vh; } }
 @media (min-width: 3800px) { body { zoom: 2; min-height: 50vh; } }
@@ -141,10 +179,11 @@ rect.Doubtful { fill: url(#hatch); }
 @media print {
   :root { color-scheme: light; --ground: #fff; --panel: #fff; --line: #999; --text: #000; --dim: #333; }
   * { print-color-adjust: exact; -webkit-print-color-adjust: exact; }
-  .waits { min-width: 0; }
+  .urgent { min-width: 0; }
+  #age, #silent { display: none; }
   body { display: block; font-size: 11px; line-height: 15px; padding: 0; min-height: 0; }
   section { padding: 0; margin-bottom: 14px; }
-  .few .waits, .few .ways, .few .schedule { font-size: 13px; line-height: 17px; }
+  .urgent:not(:has(tbody tr:nth-child(25))), .few .ways, .few .schedule { font-size: 13px; line-height: 17px; }
   h2 { break-after: avoid; border-bottom: 2px solid #000; margin-bottom: 3px; }
   thead { display: table-header-group; }
   tr, li, .tile, .link, .schedule { break-inside: avoid; }
@@ -158,7 +197,7 @@ rect.Doubtful { fill: url(#hatch); }
   .doubt:not(.zero) small, .failed:not(.zero) small { color: #000; }
   .doubt:not(.zero) { border-color: #000; outline: 3px dashed #000; }
   .failed:not(.zero) { border-color: var(--red); outline: 3px solid var(--red); }
-  .waits tr.Doubtful { background: #ffd9bf; }
+  .urgent tr.InDoubt, .urgent tr.FailedSince, .urgent tr.LostReport { background: #ffd9bf; }
   .premise { color: #fff; }
   .closed .premise { color: #000; }
   .ways td.by, .few .ways td.by { max-width: none; }
@@ -170,8 +209,70 @@ rect.Doubtful { fill: url(#hatch); }
 }
 "##;
 
-/// That the page is asked for again.
-pub(crate) const REFRESH: &str = r##"<meta http-equiv="refresh" content="5">
+/// The policy of a page on which no script runs.
+pub(crate) const STRICT: &str =
+    r##"<meta http-equiv="Content-Security-Policy" content="default-src 'none'; style-src 'unsafe-inline'; img-src data:">
+"##;
+
+/// The end of the policy, the page's refresh if no script may run, and the start of its script.
+pub(crate) const LIVE: &str = r##"">
+<noscript><meta http-equiv="refresh" content="5"></noscript>
+<script>
+"##;
+
+/// The script.
+pub(crate) const SCRIPT: &str =
+    r##"// Asks for the board again every 5 seconds and shows it in place of the last one. While none comes, the last one stays, below a red line that says since when.
+(() => {
+  const EVERY = 5, PATIENCE = 10;
+  let answered = Date.now(), why = '', asking = false;
+
+  const clock = (at) => new Date(at).toISOString().slice(11, 19);
+  const span = (s) => s < 60 ? `${s} s` : s < 3600 ? `${Math.floor(s / 60)} min` : s < 86400 ? `${Math.floor(s / 3600)} h ${Math.floor(s % 3600 / 60)} min`
+    : `${Math.floor(s / 86400)} d ${Math.floor(s % 86400 / 3600)} h`;
+  const line = (id, text) => {
+    const header = document.querySelector('header');
+    if (!header) return;
+    const it = document.getElementById(id) || header.appendChild(document.createElement('p'));
+    it.id = id;
+    it.textContent = text;
+    it.hidden = !text;
+  };
+
+  // how old the last move is, and how long there was no board, by the clock of this browser
+  const tell = () => {
+    const moved = document.getElementById('moved');
+    const age = moved ? Math.floor(Date.now() / 1000) - Number(moved.dataset.at) : 0;
+    line('age', !moved ? '' : age < 0 ? 'which is later than the clock here' : `${span(age)} ago`);
+    line('silent', why && `NO BOARD since ${clock(answered)} UTC, ${span(Math.floor((Date.now() - answered) / 1000))}: ${why}. This is the last one.`);
+  };
+
+  const show = (text) => {
+    const page = new DOMParser().parseFromString(text, 'text/html');
+    if (page.title !== document.title || !page.querySelector('section.urgent')) return 'another page was answered';
+    if (page.querySelector('style').textContent !== document.querySelector('style').textContent) location.reload();
+    document.body.replaceWith(page.body);
+    answered = Date.now();
+    return '';
+  };
+
+  const ask = async () => {
+    if (asking) return;
+    asking = true;
+    try {
+      const answer = await fetch(location.href, { cache: 'no-store', signal: AbortSignal.timeout(PATIENCE * 1000) });
+      why = answer.status === 200 ? show(await answer.text()) : `the answer was ${answer.status}`;
+    } catch {
+      why = 'no answer';
+    }
+    asking = false;
+    tell();
+  };
+
+  document.addEventListener('DOMContentLoaded', tell);
+  setInterval(tell, 1000);
+  setInterval(ask, EVERY * 1000);
+})();
 "##;
 
 /// Where the heading begins.
@@ -184,11 +285,16 @@ pub(crate) const TILES: &str = r##"<section class="tiles">
 <h2>How many stand where</h2>
 "##;
 
-/// Where the table of what waits begins.
-pub(crate) const WAITS: &str = r##"<section class="waits">
-<h2>What waits for a person</h2>
+/// What the heading says of a file that nobody has open.
+pub(crate) const CLOSED: &str = r##"<p class="file">closed file</p>
+<p>no failed request is listed; each scheduled one counts as on board</p>
+"##;
+
+/// Where the table of what is open begins.
+pub(crate) const URGENT: &str = r##"<section class="urgent">
+<h2>What is open, most urgent first</h2>
 <table>
-<thead><tr><th>What</th><th>Waits for</th><th>By whom</th></tr></thead>
+<thead><tr><th>What</th><th>Name</th><th>Service</th><th>Waits for</th><th>By whom</th><th>For</th></tr></thead>
 <tbody>
 "##;
 

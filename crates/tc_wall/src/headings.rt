@@ -5,7 +5,7 @@ ghost use Rattle.tc_wall.specs.Parts.{Adds};
 ghost use Rattle.tc_wall.specs.Heading.{file_parts, opened_parts, entered_parts, moved_parts, last_parts, heading_parts};
 
 use crate::bounds::add_fixed;
-use crate::fixed::HEADING;
+use crate::fixed::{CLOSED, HEADING};
 use crate::times::time_text;
 use crate::walls::{Opening, Wall};
 use std::alloc::{AllocError, Allocator};
@@ -36,7 +36,7 @@ fn add_file<A: Allocator + Copy>(
 {
     match opening {
         Some(opening) => add_opened(page, opening),
-        None => page.push_str("<p class=\"file\">closed file</p>\n"),
+        None => add_fixed(page, CLOSED),
     }
 }
 
@@ -56,7 +56,11 @@ fn add_moved<A: Allocator + Copy>(page: &mut String<A>, row: &Move) -> Result<()
     let seq = row.seq;
     let time = time_text(row.moment);
     let time = time.as_str();
-    write!(page, "<p>last move <b>{seq}</b> at <b>{time}</b> UTC</p>\n")
+    let moment = row.moment.get();
+    write!(
+        page,
+        "<p id=\"moved\" data-at=\"{moment}\">last move <b>{seq}</b> at <b>{time}</b> UTC</p>\n"
+    )
 }
 
 /// Adds the last of these moves, where there is one.

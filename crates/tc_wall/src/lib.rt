@@ -10,6 +10,7 @@ mod bounds;
 mod escapes;
 mod fixed;
 mod headings;
+mod kinds;
 pub mod laws;
 mod lines;
 mod link_rows;
@@ -21,14 +22,16 @@ mod schedules;
 mod signs;
 mod tiles;
 mod times;
+mod urgent_rows;
 mod wait_rows;
 mod walls;
 mod way_rows;
 mod ways;
 
+pub use fixed::POLICY;
 pub use links::{FarmLine, FarmWord, FopLine, FopWord, LinkLines};
 pub use pages::{MOST_BYTES, wall_text};
 pub use walls::{
-    Live, MOST_MOVES, MOST_OPEN, MOST_SHOWN_ACTIVITIES, MOST_STAGES, MOST_WAITS, Opening,
-    ShownSchedule, Wait, Wall, Way,
+    KINDS, Live, MOST_LINES, MOST_MOVES, MOST_OPEN, MOST_SHOWN_ACTIVITIES, MOST_STAGES, Opening,
+    ShownSchedule, UrgentRow, Wall, Way,
 };

@@ -2,17 +2,17 @@
 ghost use Rattle.std.specs.Prelude.{◌≡◌, ◌≤◌, IfOk, OnOk};
 ghost use Rattle.std.specs.String.{string_bytes, string_len};
 ghost use Rattle.tc_wall.specs.Parts.{Adds};
-ghost use Rattle.tc_wall.specs.Page.{laid_in, size_word, refresh_parts, head_parts, live_parts, page, wall_page};
+ghost use Rattle.tc_wall.specs.Page.{laid_in, size_word, live_script_parts, script_parts, head_parts, live_parts, page, wall_page};
 
 use crate::bounds::add_fixed;
-use crate::fixed::{FOOT, HEAD, REFRESH, STYLE};
+use crate::fixed::{FOOT, HEAD, LIVE, POLICY, SCRIPT, STRICT, STYLE};
 use crate::headings::add_heading;
 use crate::link_rows::{add_closed_link, add_link};
 use crate::move_rows::add_moves;
 use crate::ranges::keep_wall;
 use crate::schedules::{add_closed_schedule, add_known_schedule};
 use crate::tiles::add_tiles;
-use crate::wait_rows::add_waits;
+use crate::urgent_rows::add_urgents;
 use crate::walls::{Live, Wall};
 use crate::ways::add_ways;
 use std::alloc::{AllocError, Allocator};
@@ -39,24 +39,38 @@ fn size_word(wall: &Wall) -> &'static str
     ensures { result.now ≡ size_word wall.now }
 {
     let laid_in = laid_in(&wall.live);
-    if wall.opened <= MOST_FEW && wall.waiting <= MOST_FEW && laid_in <= MOST_FEW - wall.waiting {
+    if wall.opened <= MOST_FEW && wall.lines <= MOST_FEW && laid_in <= MOST_FEW - wall.lines {
         "few"
     } else {
         "many"
     }
 }
 
-/// Adds that the page is asked for again, where the desk is open.
-#[tactic(auto, unfolding(crate::specs::Page::refresh_parts))]
-fn add_refresh<A: Allocator + Copy>(
+/// Adds the policy of an open desk's page, and the one script that it allows.
+#[tactic(auto, using(crate::proofs::PartLemmas::then_adds), unfolding(crate::specs::Page::live_script_parts))]
+fn add_live_script<A: Allocator + Copy>(page: &mut String<A>) -> Result<(), AllocError>
+    ensures { OnOk result (Adds live_script_parts (string_bytes page.old) (string_bytes page.new)) }
+{
+    add_fixed(
+        page,
+        "<meta http-equiv=\"Content-Security-Policy\" content=\"",
+    )?;
+    add_fixed(page, POLICY)?;
+    add_fixed(page, LIVE)?;
+    add_fixed(page, SCRIPT)?;
+    add_fixed(page, "</script>\n")
+}
+
+/// Adds what may run on the page: one script if the desk is open, else none.
+fn add_script<A: Allocator + Copy>(
     page: &mut String<A>,
     live: &Option<Live>,
 ) -> Result<(), AllocError>
-    ensures { OnOk result (Adds (refresh_parts live.now) (string_bytes page.old) (string_bytes page.new)) }
+    ensures { OnOk result (Adds (script_parts live.now) (string_bytes page.old) (string_bytes page.new)) }
 {
     match live {
-        None => Ok(()),
-        Some(_) => add_fixed(page, REFRESH),
+        None => add_fixed(page, STRICT),
+        Some(_) => add_live_script(page),
     }
 }
 
@@ -68,7 +82,7 @@ fn add_head<A: Allocator + Copy>(page: &mut String<A>, wall: &Wall) -> Result<()
     add_fixed(page, HEAD)?;
     add_fixed(page, STYLE)?;
     add_fixed(page, "</style>\n")?;
-    add_refresh(page, &wall.live)?;
+    add_script(page, &wall.live)?;
     add_fixed(page, "</head>\n<body class=\"")?;
     add_fixed(page, size_word(wall))?;
     add_fixed(page, "\">\n")
@@ -105,8 +119,8 @@ fn add_page<A: Allocator + Copy>(
 {
     add_head(text, wall)?;
     add_heading(text, wall)?;
-    add_tiles(text, wall.counts)?;
-    add_waits(text, wall)?;
+    add_tiles(text, wall.counts, wall.failed)?;
+    add_urgents(text, wall)?;
     add_live(text, &wall.live)?;
     add_ways(alloc, text, wall)?;
     add_moves(text, wall)?;

@@ -1,17 +1,18 @@
 //! What the types of a wall keep. These functions do nothing: their clauses are what the types know.
 ghost use Rattle.std.specs.Prelude.{◌<◌, ◌≤◌, ◌^◌, IfSome, length};
 ghost use Rattle.std.specs.List.{AllByRecursion};
-ghost use Rattle.tc_wall.specs.Ranges.{IsShort, IsMoveInRange, IsWantingInRange, IsWaitingInRange, IsWaitInRange, IsOriginInRange, IsRequestInRange, IsWayInRange, AreQueuesInRange, AreCountersInRange, IsFopInRange, IsFarmInRange, IsLinkInRange, IsActivityInRange, IsScheduleInRange, IsLiveInRange, IsOpeningInRange, IsWallInRange};
+ghost use Rattle.tc_wall.specs.Ranges.{IsShort, IsMoveInRange, IsWantingInRange, IsWaitingInRange, IsOnBoardInRange, IsLineInRange, IsUrgentInRange, IsOriginInRange, IsRequestInRange, IsWayInRange, AreQueuesInRange, AreCountersInRange, IsFopInRange, IsFarmInRange, IsLinkInRange, IsActivityInRange, IsScheduleInRange, IsLiveInRange, IsOpeningInRange, IsLastInRange, IsWallInRange};
 ghost use Rattle.tc_wall.specs.Waits.{text_of};
 
 use crate::bounds::{first_of, last_of};
 use crate::links::{FarmLine, FopLine, LinkLines};
 use crate::walls::{
-    Live, MOST_MOVES, MOST_OPEN, MOST_SHOWN_ACTIVITIES, MOST_WAITS, Opening, ShownSchedule, Wait,
-    Wall, Way,
+    KINDS, Live, MOST_LINES, MOST_MOVES, MOST_OPEN, MOST_SHOWN_ACTIVITIES, Opening, ShownSchedule,
+    UrgentRow, Wall, Way,
 };
 use crate::way_rows::kind;
 use tc_types::{ListedActivity, Move, Name, Origin, PLACES, Request, StepText, Waiting, Wanting};
+use tc_urgent::{OnBoard, UrgentLine};
 
 /// A name is short.
 fn keep_name(name: &Name)
@@ -104,21 +105,72 @@ fn keep_waiting(waiting: &Waiting)
     }
 }
 
-/// A line of what waits.
-fn keep_wait(it: &Wait)
-    ensures { IsWaitInRange it.now }
+/// What may wait for no person.
+fn keep_wait(waiting: &Option<Waiting>)
+    ensures { IfSome waiting.now IsWaitingInRange }
 {
-    keep_waiting(&it.waiting);
-    keep_text(&it.text);
+    if let Some(waiting) = waiting {
+        keep_waiting(waiting);
+    }
+}
+
+/// By what a request is known on board.
+fn keep_known(on_board: &OnBoard)
+    ensures { IsOnBoardInRange on_board.now }
+{
+    let identity = &on_board.identity;
+    let _numbers = (identity.apid.get(), identity.count.get());
+    let _service = on_board.service;
+    let _subtype = on_board.subtype;
+}
+
+/// The same of a request or an execution.
+fn keep_on_board(on_board: &Option<OnBoard>)
+    ensures { IfSome on_board.now IsOnBoardInRange }
+{
+    if let Some(on_board) = on_board {
+        keep_known(on_board);
+    }
+}
+
+/// A line of what is open.
+fn keep_line(line: &UrgentLine)
+    ensures { IsLineInRange line.now }
+{
+    let _number = line.number;
+    let _insert = line.kind.insert();
+    let _waited = line.waited;
+    let _same = line.same;
+    keep_on_board(&line.on_board);
+    keep_other(&line.stack);
+}
+
+/// A line with what is said beside it.
+fn keep_urgent(row: &UrgentRow)
+    ensures { IsUrgentInRange row.now }
+{
+    keep_line(&row.line);
+    keep_wait(&row.waiting);
+    keep_text(&row.text);
 }
 
 /// These lines.
 #[tactic(auto, using(crate::proofs::RangeLemmas::each_kept))]
-fn keep_waits(waits: &[Wait])
-    ensures { AllByRecursion IsWaitInRange waits.now }
+fn keep_urgents(rows: &[UrgentRow])
+    ensures { AllByRecursion IsUrgentInRange rows.now }
 {
-    for wait in waits {
-        keep_wait(wait);
+    for row in rows {
+        keep_urgent(row);
+    }
+}
+
+/// How many lines are left out.
+#[tactic(auto, using(crate::proofs::RangeLemmas::each_kept_at))]
+fn keep_left(left: &[usize; KINDS])
+    ensures { AllByRecursion (λ n. n < 2 ^ 64) left.now }
+{
+    for count in left {
+        let _count = *count;
     }
 }
 
@@ -276,10 +328,10 @@ fn keep_counts(counts: &[u32; PLACES])
 
 /// The last move.
 fn keep_last(last: Option<Move>)
-    ensures { IfSome last (λ row. row.seq < 2 ^ 32) }
+    ensures { IfSome last IsLastInRange }
 {
     if let Some(row) = last {
-        let _number = row.seq;
+        let _numbers = (row.seq, row.moment.get());
     }
 }
 
@@ -288,11 +340,12 @@ pub(crate) fn keep_wall(wall: &Wall)
     ensures { IsWallInRange wall.now }
 {
     let _entered = wall.entered;
-    let _waiting = wall.waiting;
+    let _lines = wall.lines;
     let _opened = wall.opened;
     let _moved = wall.moved;
     keep_counts(wall.counts);
-    keep_waits(first_of(wall.waits, MOST_WAITS));
+    keep_urgents(first_of(wall.urgent, MOST_LINES));
+    keep_left(wall.left);
     keep_opening(&wall.opening);
     keep_live(&wall.live);
     keep_ways(first_of(wall.ways, MOST_OPEN));

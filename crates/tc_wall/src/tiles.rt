@@ -3,7 +3,7 @@ ghost use Rattle.std.specs.Prelude.{◌≡◌, ◌≤◌, length, OnOk};
 ghost use Rattle.std.specs.List.{flat_map};
 ghost use Rattle.std.specs.String.{string_bytes};
 ghost use Rattle.tc_wall.specs.Parts.{Adds};
-ghost use Rattle.tc_wall.specs.Tiles.{count_at, sum_at, zero_word, tile_begins, tile_label, tile_head_parts, count_parts, next_parts, counts_parts, tile_parts, place_tile_parts, under_way_parts, open_tiles_parts, ended_parts, final_tiles_parts, tiles_parts};
+ghost use Rattle.tc_wall.specs.Tiles.{count_at, sum_at, zero_word, tile_begins, tile_label, tile_head_parts, count_parts, next_parts, counts_parts, tile_parts, place_tile_parts, under_way_parts, open_tiles_parts, ended_parts, failed_word, final_tiles_parts, tiles_parts};
 
 use crate::bounds::add_fixed;
 use crate::fixed::TILES;
@@ -215,29 +215,39 @@ fn add_ended<A: Allocator + Copy>(
     add_tile(page, counts, "ended", label, Place::Withdrawn, &places)
 }
 
-/// Adds the tiles of those that have come to an end.
+/// The class of the tile of those that failed: it stands out if one failed after the opening.
+#[tactic(auto, unfolding(crate::specs::Tiles::failed_word))]
+fn failed_word(failed: usize) -> &'static str
+    ensures { result.now ≡ failed_word failed }
+{
+    if failed > 0 { "failed" } else { "past" }
+}
+
+/// Adds the tiles of those that have come to an end; so many failed after the opening.
 #[tactic(auto, using(crate::proofs::PartLemmas::then_adds), unfolding(crate::specs::Tiles::final_tiles_parts))]
 fn add_final_tiles<A: Allocator + Copy>(
     page: &mut String<A>,
     counts: &[u32; PLACES],
+    failed: usize,
 ) -> Result<(), AllocError>
-    ensures { OnOk result (Adds (final_tiles_parts counts.now) (string_bytes page.old) (string_bytes page.new)) }
+    ensures { OnOk result (Adds (final_tiles_parts counts.now failed) (string_bytes page.old) (string_bytes page.new)) }
 {
-    add_place_tile(page, counts, "failed", "FAILED", Place::Failed)?;
+    add_place_tile(page, counts, failed_word(failed), "FAILED", Place::Failed)?;
     add_place_tile(page, counts, "completed", "completed", Place::Completed)?;
     add_ended(page, counts)
 }
 
-/// Adds the tiles.
+/// Adds the tiles; so many failed after the opening.
 #[tactic(auto, using(crate::proofs::PartLemmas::then_adds), unfolding(crate::specs::Tiles::tiles_parts))]
 pub(crate) fn add_tiles<A: Allocator + Copy>(
     page: &mut String<A>,
     counts: &[u32; PLACES],
+    failed: usize,
 ) -> Result<(), AllocError>
-    ensures { OnOk result (Adds (tiles_parts counts.now) (string_bytes page.old) (string_bytes page.new)) }
+    ensures { OnOk result (Adds (tiles_parts counts.now failed) (string_bytes page.old) (string_bytes page.new)) }
 {
     add_fixed(page, TILES)?;
     add_open_tiles(page, counts)?;
-    add_final_tiles(page, counts)?;
+    add_final_tiles(page, counts, failed)?;
     add_fixed(page, "</section>\n")
 }

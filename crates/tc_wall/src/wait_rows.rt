@@ -1,63 +1,15 @@
-//! What waits.
+//! What a line waits for, and who may act on it.
 ghost use Rattle.std.specs.Prelude.{◌≡◌, OnOk};
-ghost use Rattle.std.specs.List.{flat_map};
 ghost use Rattle.std.specs.String.{string_bytes};
 ghost use Rattle.tc_wall.specs.Parts.{Adds};
-ghost use Rattle.tc_wall.specs.Waits.{critical_parts, request_begins, stack_begins, marked_parts, approvals_parts, rows_parts, other_parts, author_parts, barred_parts, request_parts, stack_parts, free_parts, locked_parts, doubt_parts, text_of, whom_word, work_parts, waiting_parts, wait_parts, waits_parts};
+ghost use Rattle.tc_wall.specs.Waits.{activity_parts, approval_parts, approvals_parts, author_parts, forever_parts, kind_says, line_parts, lock_parts, locked_parts, next_parts, other_parts, says_parts, step_parts, text_of, wanting_parts, whom_word};
 
-use crate::bounds::{add_fixed, add_left_out, add_none, first_of};
+use crate::bounds::add_fixed;
 use crate::escapes::Escaped;
-use crate::fixed::WAITS;
-use crate::signs::sign;
-use crate::walls::{MOST_WAITS, Wait, Wall};
 use std::alloc::{AllocError, Allocator};
 use std::fmt::Write;
-use tc_types::{Lock, Name, Place, StepText, Waiting, Wanting};
-
-/// Adds the sign of what is critical, where it is.
-#[tactic(auto, unfolding(crate::specs::Waits::critical_parts))]
-pub(crate) fn add_critical<A: Allocator + Copy>(
-    page: &mut String<A>,
-    critical: bool,
-) -> Result<(), AllocError>
-    ensures { OnOk result (Adds (critical_parts critical) (string_bytes page.old) (string_bytes page.new)) }
-{
-    if !critical {
-        return Ok(());
-    }
-    page.push_str("<em>&#9650; critical</em>")
-}
-
-/// Adds it behind a space.
-#[tactic(auto, using(crate::proofs::PartLemmas::then_adds), unfolding(crate::specs::Waits::marked_parts))]
-fn add_marked<A: Allocator + Copy>(page: &mut String<A>, critical: bool) -> Result<(), AllocError>
-    ensures { OnOk result (Adds (marked_parts critical) (string_bytes page.old) (string_bytes page.new)) }
-{
-    if !critical {
-        return Ok(());
-    }
-    add_fixed(page, " ")?;
-    add_critical(page, critical)
-}
-
-/// Adds where the row of a request begins that waits for approval.
-#[tactic(auto, unfolding(crate::specs::Waits::request_begins))]
-fn begin_request<A: Allocator + Copy>(page: &mut String<A>, request: u32) -> Result<(), AllocError>
-    ensures { OnOk result (Adds (request_begins request) (string_bytes page.old) (string_bytes page.new)) }
-{
-    let sign = sign(Place::Entered);
-    write!(page, "<tr class=\"Entered\"><td>{sign} request {request}")
-}
-
-/// The same of a stack.
-#[tactic(auto, unfolding(crate::specs::Waits::stack_begins))]
-fn begin_stack<A: Allocator + Copy>(page: &mut String<A>, stack: &Name) -> Result<(), AllocError>
-    ensures { OnOk result (Adds (stack_begins stack.now) (string_bytes page.old) (string_bytes page.new)) }
-{
-    let sign = sign(Place::Entered);
-    let stack = Escaped(stack.as_str());
-    write!(page, "<tr class=\"Entered\"><td>{sign} stack {stack}")
-}
+use tc_types::{Lock, Name, StepText, Waiting, Wanting};
+use tc_urgent::UrgentKind;
 
 /// Adds how many approved, and how many are wanted.
 #[tactic(auto, unfolding(crate::specs::Waits::approvals_parts))]
@@ -69,19 +21,16 @@ fn add_approvals<A: Allocator + Copy>(
 {
     let given = approval.given();
     let wanted = approval.wanted();
-    write!(page, "</td><td>approval {given} of {wanted}")
+    write!(page, "approval {given} of {wanted}")
 }
 
-/// Adds how many rows of a stack wait, and which request is on its first line.
-#[tactic(auto, unfolding(crate::specs::Waits::rows_parts))]
-fn add_rows<A: Allocator + Copy>(
-    page: &mut String<A>,
-    rows: u32,
-    first: u32,
-) -> Result<(), AllocError>
-    ensures { OnOk result (Adds (rows_parts rows first) (string_bytes page.old) (string_bytes page.new)) }
+/// Adds the author of what waits for approval, who may give none.
+#[tactic(auto, unfolding(crate::specs::Waits::author_parts))]
+fn add_author<A: Allocator + Copy>(page: &mut String<A>, author: &Name) -> Result<(), AllocError>
+    ensures { OnOk result (Adds (author_parts author.now) (string_bytes page.old) (string_bytes page.new)) }
 {
-    write!(page, ", rows {rows} first {first}")
+    let author = Escaped(author.as_str());
+    write!(page, "</td><td>not {author}")
 }
 
 /// Adds who approved already, if anybody did.
@@ -98,100 +47,41 @@ fn add_other<A: Allocator + Copy>(page: &mut String<A>, by: &Option<Name>) -> Re
     }
 }
 
-/// Adds the author of what waits for approval, who may give none.
-#[tactic(auto, unfolding(crate::specs::Waits::author_parts))]
-fn add_author<A: Allocator + Copy>(page: &mut String<A>, author: &Name) -> Result<(), AllocError>
-    ensures { OnOk result (Adds (author_parts author.now) (string_bytes page.old) (string_bytes page.new)) }
-{
-    let author = Escaped(author.as_str());
-    write!(page, "</td><td>not {author}")
-}
-
-/// Adds who may not approve: the author, and who approved already.
-#[tactic(auto, using(crate::proofs::PartLemmas::then_adds), unfolding(crate::specs::Waits::barred_parts))]
-fn add_barred<A: Allocator + Copy>(
+/// Adds how far an approval has come, and who may not give one.
+#[tactic(auto, using(crate::proofs::PartLemmas::then_adds), unfolding(crate::specs::Waits::wanting_parts))]
+fn add_wanting<A: Allocator + Copy>(
     page: &mut String<A>,
     approval: &Wanting,
 ) -> Result<(), AllocError>
-    ensures { OnOk result (Adds (barred_parts approval.now) (string_bytes page.old) (string_bytes page.new)) }
+    ensures { OnOk result (Adds (wanting_parts approval.now) (string_bytes page.old) (string_bytes page.new)) }
 {
+    add_approvals(page, approval)?;
     add_author(page, &approval.author)?;
-    add_other(page, &approval.by)?;
-    add_fixed(page, "</td></tr>\n")
+    add_other(page, &approval.by)
 }
 
-/// Adds the row of a request that waits for approval.
-#[tactic(auto, using(crate::proofs::PartLemmas::then_adds), unfolding(crate::specs::Waits::request_parts))]
-fn add_request<A: Allocator + Copy>(
+/// Adds that of a request, or of its stack.
+fn add_approval<A: Allocator + Copy>(
     page: &mut String<A>,
-    request: u32,
-    approval: &Wanting,
+    waiting: &Option<Waiting>,
 ) -> Result<(), AllocError>
-    ensures { OnOk result (Adds (request_parts request approval.now) (string_bytes page.old) (string_bytes page.new)) }
+    ensures { OnOk result (Adds (approval_parts waiting.now) (string_bytes page.old) (string_bytes page.new)) }
 {
-    begin_request(page, request)?;
-    add_marked(page, approval.critical)?;
-    add_approvals(page, approval)?;
-    add_barred(page, approval)
+    match waiting {
+        Some(Waiting::Request { approval, .. }) => add_wanting(page, approval),
+        Some(Waiting::Stack { approval, .. }) => add_wanting(page, approval),
+        _ => add_fixed(page, "approval</td><td>"),
+    }
 }
 
-/// Adds the row of a stack that waits for approval.
-#[tactic(auto, using(crate::proofs::PartLemmas::then_adds), unfolding(crate::specs::Waits::stack_parts))]
-fn add_stack<A: Allocator + Copy>(
-    page: &mut String<A>,
-    stack: &Name,
-    approval: &Wanting,
-    rows: u32,
-    first: u32,
-) -> Result<(), AllocError>
-    ensures { OnOk result (Adds (stack_parts stack.now approval.now rows first) (string_bytes page.old) (string_bytes page.new)) }
+/// The text of a step, if it is known.
+pub(crate) fn text_of(text: &Option<StepText>) -> &str
+    ensures { result.now ≡ text_of text.now }
 {
-    begin_stack(page, stack)?;
-    add_marked(page, approval.critical)?;
-    add_approvals(page, approval)?;
-    add_rows(page, rows, first)?;
-    add_barred(page, approval)
-}
-
-/// Adds the row of a request that may be released.
-#[tactic(auto, unfolding(crate::specs::Waits::free_parts))]
-fn add_free<A: Allocator + Copy>(page: &mut String<A>, request: u32) -> Result<(), AllocError>
-    ensures { OnOk result (Adds (free_parts request) (string_bytes page.old) (string_bytes page.new)) }
-{
-    let sign = sign(Place::Approved);
-    write!(
-        page,
-        "<tr class=\"Approved\"><td>{sign} request {request}</td><td>release</td><td>anyone</td></tr>\n"
-    )
-}
-
-/// Adds the row of a request that a line of a stack locks.
-#[tactic(auto, unfolding(crate::specs::Waits::locked_parts))]
-fn add_locked<A: Allocator + Copy>(
-    page: &mut String<A>,
-    request: u32,
-    lock: &Lock,
-) -> Result<(), AllocError>
-    ensures { OnOk result (Adds (locked_parts request lock.now) (string_bytes page.old) (string_bytes page.new)) }
-{
-    let line = lock.line;
-    let stack = Escaped(lock.stack.as_str());
-    write!(
-        page,
-        "<tr class=\"Locked\"><td>&#9676; request {request}</td><td>locked by line {line} of {stack}</td><td>nobody yet</td></tr>\n"
-    )
-}
-
-/// Adds the row of a request that is in doubt.
-#[tactic(auto, unfolding(crate::specs::Waits::doubt_parts))]
-fn add_doubt<A: Allocator + Copy>(page: &mut String<A>, request: u32) -> Result<(), AllocError>
-    ensures { OnOk result (Adds (doubt_parts request) (string_bytes page.old) (string_bytes page.new)) }
-{
-    let sign = sign(Place::Doubtful);
-    write!(
-        page,
-        "<tr class=\"Doubtful\"><td>{sign} request {request}</td><td>IN DOUBT: on board or not?</td><td>anyone</td></tr>\n"
-    )
+    match text {
+        None => "",
+        Some(text) => text.as_str(),
+    }
 }
 
 /// By whom a step is worked.
@@ -206,89 +96,128 @@ fn whom_word(is_countersigned: bool) -> &'static str
     }
 }
 
-/// The text of a step, where it is known.
-fn text_of(text: &Option<StepText>) -> &str
-    ensures { result.now ≡ text_of text.now }
-{
-    match text {
-        None => "",
-        Some(text) => text.as_str(),
-    }
-}
-
-/// Adds the row of the step that comes next of an execution.
-#[tactic(auto, unfolding(crate::specs::Waits::work_parts))]
-fn add_work<A: Allocator + Copy>(
+/// Adds the next step of an execution.
+#[tactic(auto, unfolding(crate::specs::Waits::next_parts))]
+fn add_next<A: Allocator + Copy>(
     page: &mut String<A>,
-    execution: u32,
-    procedure: &Name,
     step: u32,
     is_countersigned: bool,
     text: &str,
 ) -> Result<(), AllocError>
-    ensures { OnOk result (Adds (work_parts execution procedure.now step is_countersigned text.now) (string_bytes page.old) (string_bytes page.new)) }
+    ensures { OnOk result (Adds (next_parts step is_countersigned text.now) (string_bytes page.old) (string_bytes page.new)) }
 {
-    let procedure = Escaped(procedure.as_str());
     let text = Escaped(text);
     let whom = whom_word(is_countersigned);
-    write!(
-        page,
-        "<tr class=\"Work\"><td>&#9998; execution {execution} of {procedure}</td><td>step {step}: {text}</td><td>{whom}</td></tr>\n"
-    )
+    write!(page, "step {step}: {text}</td><td>{whom}")
 }
 
-/// Adds the row of what waits; where it is a step, this is its text.
-#[tactic(auto, unfolding(crate::specs::Waits::waiting_parts))]
-fn add_waiting<A: Allocator + Copy>(
+/// Adds the step that is due.
+fn add_step<A: Allocator + Copy>(
     page: &mut String<A>,
-    waiting: &Waiting,
+    waiting: &Option<Waiting>,
     text: &str,
 ) -> Result<(), AllocError>
-    ensures { OnOk result (Adds (waiting_parts waiting.now text.now) (string_bytes page.old) (string_bytes page.new)) }
+    ensures { OnOk result (Adds (step_parts waiting.now text.now) (string_bytes page.old) (string_bytes page.new)) }
 {
     match waiting {
-        Waiting::Request { request, approval } => add_request(page, *request, approval),
-        Waiting::Stack {
-            stack,
-            approval,
-            rows,
-            first,
-        } => add_stack(page, stack, approval, *rows, *first),
-        Waiting::Free { request } => add_free(page, *request),
-        Waiting::Locked { request, lock } => add_locked(page, *request, lock),
-        Waiting::Doubtful { request } => add_doubt(page, *request),
-        Waiting::Step {
-            execution,
-            procedure,
-            step,
-            is_countersigned,
-        } => add_work(page, *execution, procedure, *step, *is_countersigned, text),
+        Some(
+            Waiting::Step {
+                step,
+                is_countersigned,
+                ..
+            },
+        ) => add_next(page, *step, *is_countersigned, text),
+        _ => add_fixed(page, "step</td><td>anyone"),
     }
 }
 
-/// Adds a row for each of these, in order.
-#[tactic(auto, using(crate::proofs::PartLemmas::none_added, crate::proofs::PartLemmas::one_more))]
-fn add_rows_of<A: Allocator + Copy>(page: &mut String<A>, waits: &[Wait]) -> Result<(), AllocError>
-    ensures { OnOk result (Adds (flat_map wait_parts waits.now) (string_bytes page.old) (string_bytes page.new)) }
+/// Adds the line of a stack that has to be completed before.
+#[tactic(auto, unfolding(crate::specs::Waits::line_parts))]
+fn add_line<A: Allocator + Copy>(page: &mut String<A>, lock: &Lock) -> Result<(), AllocError>
+    ensures { OnOk result (Adds (line_parts lock.now) (string_bytes page.old) (string_bytes page.new)) }
 {
-    for wait in waits {
-        add_waiting(page, &wait.waiting, text_of(&wait.text))?;
-    }
-    Ok(())
+    let line = lock.line;
+    let stack = Escaped(lock.stack.as_str());
+    write!(page, " by line {line} of {stack}")
 }
 
-/// Adds what waits, up to a bound.
-#[tactic(auto, using(crate::proofs::PartLemmas::then_adds), unfolding(crate::specs::Waits::waits_parts))]
-pub(crate) fn add_waits<A: Allocator + Copy>(
+/// Adds the line that locks a request, if it is known.
+fn add_lock<A: Allocator + Copy>(
     page: &mut String<A>,
-    wall: &Wall,
+    waiting: &Option<Waiting>,
 ) -> Result<(), AllocError>
-    ensures { OnOk result (Adds (waits_parts wall.now) (string_bytes page.old) (string_bytes page.new)) }
+    ensures { OnOk result (Adds (lock_parts waiting.now) (string_bytes page.old) (string_bytes page.new)) }
 {
-    add_fixed(page, WAITS)?;
-    add_rows_of(page, first_of(wall.waits, MOST_WAITS))?;
-    add_fixed(page, "</tbody>\n</table>\n")?;
-    add_none(page, wall.waiting, "Nothing waits.")?;
-    add_left_out(page, wall.waiting, MOST_WAITS)?;
-    add_fixed(page, "</section>\n")
+    match waiting {
+        Some(Waiting::Locked { lock, .. }) => add_line(page, lock),
+        _ => Ok(()),
+    }
+}
+
+/// Adds that a lock never opens.
+#[tactic(auto, using(crate::proofs::PartLemmas::then_adds), unfolding(crate::specs::Waits::forever_parts))]
+fn add_forever<A: Allocator + Copy>(
+    page: &mut String<A>,
+    waiting: &Option<Waiting>,
+) -> Result<(), AllocError>
+    ensures { OnOk result (Adds (forever_parts waiting.now) (string_bytes page.old) (string_bytes page.new)) }
+{
+    add_fixed(page, "LOCKED FOR EVER")?;
+    add_lock(page, waiting)?;
+    add_fixed(page, "</td><td>withdraw it")
+}
+
+/// Adds that a lock is not open yet.
+#[tactic(auto, using(crate::proofs::PartLemmas::then_adds), unfolding(crate::specs::Waits::locked_parts))]
+fn add_locked<A: Allocator + Copy>(
+    page: &mut String<A>,
+    waiting: &Option<Waiting>,
+) -> Result<(), AllocError>
+    ensures { OnOk result (Adds (locked_parts waiting.now) (string_bytes page.old) (string_bytes page.new)) }
+{
+    add_fixed(page, "locked")?;
+    add_lock(page, waiting)?;
+    add_fixed(page, "</td><td>nobody yet")
+}
+
+/// Adds that an insert takes an activity along.
+#[tactic(auto, unfolding(crate::specs::Waits::activity_parts))]
+fn add_activity<A: Allocator + Copy>(page: &mut String<A>, insert: u32) -> Result<(), AllocError>
+    ensures { OnOk result (Adds (activity_parts insert) (string_bytes page.old) (string_bytes page.new)) }
+{
+    write!(page, "activity of {insert}: do not release</td><td>nobody")
+}
+
+/// What the other kinds say.
+#[tactic(auto, unfolding(crate::specs::Waits::kind_says))]
+fn kind_says(kind: &UrgentKind) -> &'static str
+    ensures { result.now ≡ kind_says kind.now }
+{
+    match kind {
+        UrgentKind::InDoubt => "IN DOUBT: on board or not?</td><td>anyone",
+        UrgentKind::FailedSince => "FAILED</td><td>look why",
+        UrgentKind::Flying => "on its way, or on board</td><td>nobody",
+        UrgentKind::LostReport => "REPORT LOST, or late</td><td>look why",
+        UrgentKind::Free => "release</td><td>anyone",
+        _ => "</td><td>",
+    }
+}
+
+/// Adds what a line of this kind waits for, and who may act on it.
+pub(crate) fn add_says<A: Allocator + Copy>(
+    page: &mut String<A>,
+    kind: &UrgentKind,
+    waiting: &Option<Waiting>,
+    text: &str,
+) -> Result<(), AllocError>
+    ensures { OnOk result (Adds (says_parts kind.now waiting.now text.now) (string_bytes page.old) (string_bytes page.new)) }
+{
+    match kind {
+        UrgentKind::Approval => add_approval(page, waiting),
+        UrgentKind::StepDue => add_step(page, waiting, text),
+        UrgentKind::ActivityOf { insert } => add_activity(page, *insert),
+        UrgentKind::LockedForever => add_forever(page, waiting),
+        UrgentKind::Locked => add_locked(page, waiting),
+        other => add_fixed(page, kind_says(other)),
+    }
 }

@@ -1,12 +1,16 @@
 //! What the wall shows.
 use crate::links::LinkLines;
 use tc_types::{ListedActivity, Moment, Move, PLACES, Place, Request, StepText, Waiting};
+use tc_urgent::UrgentLine;
 
 /// The most requests that are shown.
 pub const MOST_OPEN: usize = 200;
 
-/// The most lines of what waits that are shown.
-pub const MOST_WAITS: usize = 200;
+/// The most lines of what is open that are shown.
+pub const MOST_LINES: usize = 150;
+
+/// How many kinds of lines there are.
+pub const KINDS: usize = 10;
 
 /// The most activities that are shown.
 pub const MOST_SHOWN_ACTIVITIES: usize = 64;
@@ -17,11 +21,15 @@ pub const MOST_MOVES: usize = 50;
 /// The most moves of a request that its bar shows.
 pub const MOST_STAGES: usize = 12;
 
-/// What waits, and the text of the step where it is one.
+/// A line of what is open, and what the board says beside it.
 #[derive(Clone, Copy, Debug)]
-pub struct Wait {
-    /// What waits.
-    pub waiting: Waiting,
+pub struct UrgentRow {
+    /// The line.
+    pub line: UrgentLine,
+    /// Whether it is critical: two persons approve it.
+    pub critical: bool,
+    /// What it waits for, and by whom; `None` if it waits for no person.
+    pub waiting: Option<Waiting>,
     /// The text of the next step of an execution; `None` of all else.
     pub text: Option<StepText>,
 }
@@ -75,15 +83,19 @@ pub struct Wall<'a> {
     pub entered: u32,
     /// How many stand at each place.
     pub counts: &'a [u32; PLACES],
-    /// What waits. At most the first `MOST_WAITS` are shown.
-    pub waits: &'a [Wait],
-    /// How many wait.
-    pub waiting: usize,
+    /// What is open, most urgent first. At most the first `MOST_LINES` are shown.
+    pub urgent: &'a [UrgentRow],
+    /// How many lines there are.
+    pub lines: usize,
+    /// How many lines of each kind are not shown, by rank.
+    pub left: &'a [usize; KINDS],
+    /// How many requests failed after the opening.
+    pub failed: usize,
     /// How an open desk was opened; `None` of a file that nobody has open.
     pub opening: Option<Opening>,
     /// What is told of an open desk; `None` of a file that nobody has open.
     pub live: Option<Live<'a>>,
-    /// The requests that are open. At most the first `MOST_OPEN` are shown.
+    /// The requests that are open, most urgent first. At most the first `MOST_OPEN` are shown.
     pub ways: &'a [Way<'a>],
     /// How many are open.
     pub opened: usize,

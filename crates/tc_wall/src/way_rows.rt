@@ -8,7 +8,7 @@ use crate::axes::{Mark, WIDTH, drawn};
 use crate::bars::add_bar;
 use crate::escapes::Escaped;
 use crate::signs::sign;
-use crate::wait_rows::add_critical;
+use crate::urgent_rows::add_critical;
 use crate::walls::{MOST_STAGES, Way};
 use std::alloc::{AllocError, Allocator};
 use std::fmt::Write;

@@ -1,8 +1,8 @@
--- Its stack.
+-- One after the other.
 use Rattle.tc_wall.specs.Waits.{locked_parts}
-use Rattle.tc_wall.proofs.PartLemmas.{added}
+use Rattle.tc_wall.proofs.PartLemmas.{then_adds, last_adds}
 use Rattle.tc_wall.proofs.wait_rows.add_locked.Goals as goal
 
 pub returns : goal.returns
 unfolding locked_parts
-returns g c = added _ _ _ _ (rw c.as_str.ensures.text at c.write.ensures.bytes)
+returns g c = last_adds _ _ _ _ _ _ (then_adds _ _ _ _ _ c.in_ok-add_fixed.ensures c.in_ok-add_lock.ensures) c.add_fixed-2.ensures

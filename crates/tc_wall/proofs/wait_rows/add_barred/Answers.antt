@@ -1,8 +1,0 @@
--- One after the other.
-use Rattle.tc_wall.specs.Waits.{barred_parts}
-use Rattle.tc_wall.proofs.PartLemmas.{then_adds, last_adds}
-use Rattle.tc_wall.proofs.wait_rows.add_barred.Goals as goal
-
-pub returns : goal.returns
-unfolding barred_parts
-returns g c = last_adds _ _ _ _ _ _ (then_adds _ _ _ _ _ c.in_ok-add_author.ensures c.in_ok-add_other.ensures) c.add_fixed.ensures
