@@ -1,6 +1,10 @@
 -- What the text shows that reads the reply to one call.
-use Rattle.std.proofs.Common.{◌≡◌, ℕ, pos, ◌==◌, ◌&&◌, Bool, List, [], ◌∷◌, map, filter, find, get_or, true, false, cond, Option, None, Some, IfSome, option_map, is_eq, refl, sym, ap, ap₂, subst, ◌∙◌}
+use Rattle.std.proofs.Common.{◌≡◌, ℕ, pos, ◌==◌, ◌&&◌, Bool, List, [], ◌∷◌, map, filter, find, get_or, true, false, cond, Option, None, Some, IfSome, option_map, slice_get, Result, Ok, Err, is_eq, refl, sym, ap, ap₂, subst, ◌∙◌}
+use Rattle.std.specs.List.{AllByRecursion}
 use Rattle.std.specs.Str.{bytes_eq}
+use Rattle.tc_store.specs.declared.faults.ReadFault.{ReadFault}
+use Rattle.tc_store.specs.ReadsBack.{is_of_row, OnlyMemory, ReadsBack}
+use Rattle.tc_store.specs.Ledgers.{IsKeptAnswer}
 use Rattle.std.specs.Cmp.Lexicographic.{texts_ties}
 use Rattle.sqlite_value.specs.declared.value.Value.TheVariants.{Null, Int, Text}
 use Rattle.sqlite_value.specs.declared.keys.Collation.TheVariants.{Binary}
@@ -23,7 +27,7 @@ use Rattle.tc_sql.specs.Lists.{ListsFrom, passes, no_limit}
 use Rattle.tc_sql.proofs.Appends.{shown_numbered}
 use Rattle.tc_sql.proofs.Changes.{matches_at}
 use Rattle.tc_sql.proofs.Selects.{equal_numbers, listed}
-use Rattle.tc_store.specs.Replies.{reply_tree, reply_values, find_text, find_tests, find_columns}
+use Rattle.tc_store.specs.Replies.{reply_tree, reply_values, find_text, find_tests, find_columns, body_values}
 use Rattle.tc_store.specs.Schema.{schema_of, contents, Holds, layout_in}
 use Rattle.tc_store.specs.Reads.{IsQuiet}
 use Rattle.tc_store.specs.Shows.{shown_of}
@@ -70,11 +74,8 @@ both_true false b = refl
 abbrev is_of : List ℕ → ℕ → KeptAnswer → Bool
 is_of person number k = bytes_eq k.person person && (k.number == number)
 
-abbrev body_shown : KeptAnswer → Row
-body_shown k = Text k.body ∷ []
-
 rows_found : (person : List ℕ) (number : ℕ) (ledger : Ledger) (old new : State) (rows : List Row) → Holds old.now ledger → Shown find_text (Text person ∷ Int (pos number) ∷ []) old new rows
-    → rows ≡ map body_shown (filter (is_of person number) ledger.replies)
+    → rows ≡ map body_values (filter (is_of person number) ledger.replies)
 rows_found person number ledger old new rows held h =
     let params = Text person ∷ Int (pos number) ∷ [] in
     let tree = reply_tree (layout_in old.now) in
@@ -82,7 +83,7 @@ rows_found person number ledger old new rows held h =
     let at = matches_at old.now.trees tree (contents (layout_in old.now) ledger) held.rows there.0 in
     listed tree find_tests find_columns no_limit params (schema_of (layout_in old.now) newest) find_text old new held.schema (find_is (layout_in old.now)) rows (subst IsTable (sym at.0) at.1) h
     ∙ ap (λ all. map (shown_of find_columns) (filter (passes find_tests params) all)) (at.0 ∙ there.1)
-    ∙ shown_numbered reply_values body_shown (passes find_tests params) (is_of person number) (shown_of find_columns)
+    ∙ shown_numbered reply_values body_values (passes find_tests params) (is_of person number) (shown_of find_columns)
     (λ n k. ap₂ (λ a b. a && (b && true)) (equal_texts k.person person) (equal_numbers k.number number) ∙ both_true (bytes_eq k.person person) (k.number == number)) (λ n k. refl) 1 ledger.replies
 
 -- the first of those that are found
@@ -103,20 +104,20 @@ head_found {X} p (y ∷ xs) x found = go (p y) found (head_found p xs x)
     go false found more = more found
 
 -- what is read of the first row is the reply
-first_read : {T : Type 0} (bytes : T → List ℕ) (p : KeptAnswer → Bool) (replies : List KeptAnswer) (rows : List Row) (read : Option T) (found : Option KeptAnswer) → rows ≡ map body_shown (filter p replies)
+first_read : {T : Type 0} (bytes : T → List ℕ) (p : KeptAnswer → Bool) (replies : List KeptAnswer) (rows : List Row) (read : Option T) (found : Option KeptAnswer) → rows ≡ map body_values (filter p replies)
     → find p replies ≡ found → (read ≡ None → rows ≡ []) → IfSome read (λ text. column (get_or rows 0 []) 0 ≡ Text (bytes text)) → option_map bytes read ≡ option_map (λ (k : KeptAnswer). k.body) found
 first_read bytes p replies rows None None are is none some = refl
 first_read bytes p replies rows None (Some k) are is none some =
     let head = head_found p replies k is in
-    let e : [] ≡ map body_shown (k ∷ head.0) = sym (none refl) ∙ are ∙ ap (map body_shown) head.1 in
+    let e : [] ≡ map body_values (k ∷ head.0) = sym (none refl) ∙ are ∙ ap (map body_values) head.1 in
     absurd (cc)
 first_read bytes p replies rows (Some text) None are is none some =
-    let e : rows ≡ [] = are ∙ ap (map body_shown) (first_found p replies is) in
+    let e : rows ≡ [] = are ∙ ap (map body_values) (first_found p replies is) in
     let f : Null ≡ Text (bytes text) = sym (ap (λ (l : List Row). column (get_or l 0 []) 0) e) ∙ some in
     absurd (cc)
 first_read bytes p replies rows (Some text) (Some k) are is none some =
     let head = head_found p replies k is in
-    let e : rows ≡ map body_shown (k ∷ head.0) = are ∙ ap (map body_shown) head.1 in
+    let e : rows ≡ map body_values (k ∷ head.0) = are ∙ ap (map body_values) head.1 in
     let f : Text (bytes text) ≡ Text k.body = sym some ∙ ap (λ (l : List Row). column (get_or l 0 []) 0) e in
     let g : bytes text ≡ k.body = cc in
     ap Some g
@@ -126,3 +127,32 @@ pub reply_found : {T : Type 0} (bytes : T → List ℕ) (person : List ℕ) (num
     → option_map bytes read ≡ reply_at ledger.replies person number
 reply_found bytes person number ledger old new rows seen read same h none some held =
     first_read bytes (is_of person number) ledger.replies seen read (find (is_of person number) ledger.replies) (same ∙ rows_found person number ledger old new rows held h) refl none some
+
+-- ---- why it is not read
+
+all_filtered : (p : KeptAnswer → Bool) (xs : List KeptAnswer) → AllByRecursion IsKeptAnswer xs → AllByRecursion IsKeptAnswer (filter p xs)
+all_filtered p [] all = tt
+all_filtered p (x ∷ xs) all = go (p x) (all_filtered p xs all.1)
+  where
+    go : (b : Bool) → AllByRecursion IsKeptAnswer (filter p xs) → AllByRecursion IsKeptAnswer (cond b (x ∷ filter p xs) (filter p xs))
+    go true more = (all.0, more)
+    go false more = more
+
+-- want of memory is no fault of a row
+pub memory_back : {T : Type 0} (r : Result T ReadFault) → OnlyMemory r → ReadsBack r
+memory_back (Ok x) only = tt
+memory_back (Err e) only = ap is_of_row only
+
+-- what is found among replies that a desk could have kept is read
+pub found_back : {T : Type 0} (person : List ℕ) (number : ℕ) (ledger : Ledger) (old new : State) (rows seen : List Row) (read : Result T ReadFault) → seen ≡ rows → Shown find_text (Text person ∷ Int (pos number) ∷ []) old new rows
+    → ((kept : List KeptAnswer) → AllByRecursion IsKeptAnswer kept → seen ≡ map body_values kept → OnlyMemory read) → Holds old.now ledger → AllByRecursion IsKeptAnswer ledger.replies → ReadsBack read
+found_back person number ledger old new rows seen read same h back held all =
+    memory_back read (back (filter (is_of person number) ledger.replies) (all_filtered (is_of person number) ledger.replies all) (same ∙ rows_found person number ledger old new rows held h))
+
+-- the first row that is found shows the text of a reply that a desk could have kept
+pub first_kept : (rows : List Row) (kept : List KeptAnswer) (row : Row) → AllByRecursion IsKeptAnswer kept → rows ≡ map body_values kept → slice_get rows 0 ≡ Some row → (k : KeptAnswer) × IsKeptAnswer k × (column row 0 ≡ Text k.body)
+first_kept rows [] row all are first = absurd (let e = sym (ap (λ l. slice_get l 0) are) ∙ first in cc)
+first_kept rows (k ∷ kept) row all are first =
+    let e : Some (body_values k) ≡ Some row = sym (ap (λ l. slice_get l 0) are) ∙ first in
+    let same : body_values k ≡ row = cc in
+    (k, all.0, sym (ap (λ (l : Row). column l 0) same))

@@ -31,3 +31,5 @@ pub mod HistoryLemmas
 pub mod StepLemmas
 pub mod CreateLemmas
 pub mod PlainLemmas
+pub mod BackLemmas
+pub mod ReplyBackLemmas

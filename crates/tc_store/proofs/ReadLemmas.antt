@@ -1,5 +1,5 @@
 -- What a text that only reads leaves, and how a table lies before it.
-use Rattle.std.proofs.Common.{◌≡◌, inl, inr, ℕ, List, map, true, sym, subst, ◌∙◌, Result, Ok, Err, IfOk, OnOk, IsTrue}
+use Rattle.std.proofs.Common.{◌≡◌, inl, inr, ℕ, List, Option, map, true, false, refl, sym, ap, subst, ◌∙◌, Result, Ok, Err, IfOk, IfErr, OnOk, IsTrue}
 use Rattle.sqlite_value.specs.Order.{Row}
 use Rattle.sqlite_trees.specs.Tree.{IsTable}
 use Rattle.sqlite.specs.Given.{IsPlain}
@@ -8,7 +8,14 @@ use Rattle.sqlite_trees.specs.Tree.{Trees}
 use Rattle.sqlite_schema.specs.declared.schema.Schema.{Schema}
 use Rattle.sqlite_resolve.specs.declared.compiled.Compiled.{Compiled}
 use Rattle.sqlite_resolve.specs.declared.error.CompileError.{CompileError}
-use Rattle.sqlite.specs.State.{State, Shown, FailsToQuery, IsNotRun, CommitsShowing}
+use Rattle.sqlite_trees.specs.declared.error.StoreError.{StoreError}
+use Rattle.sqlite_trees.specs.declared.error.StoreError.TheVariants.{OutOfMemory, Io, Corrupt, Full, Broken, Unstorable}
+use Rattle.sqlite_schema.specs.declared.command.Command.{Command}
+use Rattle.sqlite_schema.specs.declared.command.Command.TheVariants.{Select, Rows}
+use Rattle.sqlite.specs.Effect.{Database, RefusesToRead}
+use Rattle.tc_store.specs.declared.faults.ReadFault.TheVariants.{Sqlite}
+use Rattle.tc_store.specs.ReadsBack.{is_of_row, ReadsBack}
+use Rattle.sqlite.specs.State.{State, store_error, Shown, FailsToQuery, IsNotRun, CommitsShowing}
 use Rattle.sqlite.proofs.Callers.{never_commits}
 use Rattle.sqlite.specs.declared.error.Error.{Error}
 use Rattle.tc_store.specs.declared.versions.Layout.{Layout}
@@ -38,6 +45,22 @@ pub quiet_of : (r : Result Compiled CompileError) → IsPlain r → IsQuiet r
 quiet_of (Ok c) plain = plain
 quiet_of (Err e) plain = tt
 
+-- no fault of the store is one of a row, and none of a query either
+no_row_of_store : (cause : StoreError) → is_of_row (Sqlite (store_error cause)) ≡ false
+no_row_of_store OutOfMemory = refl
+no_row_of_store Io = refl
+no_row_of_store Corrupt = refl
+no_row_of_store Full = refl
+no_row_of_store Broken = refl
+no_row_of_store Unstorable = refl
+
+no_row_read : (limit : Option ℕ) (command : Command) (db : Database) (params : Row) (e : Error) → RefusesToRead limit command db params e → is_of_row (Sqlite e) ≡ false
+no_row_read limit (Select q names) db params e (inl h) = ap (λ e. is_of_row (Sqlite e)) h.0
+no_row_read limit (Select q names) db params e (inr (inl h)) = ap (λ e. is_of_row (Sqlite e)) h.0
+no_row_read limit (Select q names) db params e (inr (inr h)) = ap (λ e. is_of_row (Sqlite e)) h.0
+no_row_read limit (Rows values width names) db params e h = ap (λ e. is_of_row (Sqlite e)) h.0
+no_row_read limit _ db params e h = ap (λ e. is_of_row (Sqlite e)) h
+
 -- so a quiet text changes nothing, whether it is understood or not
 module _ (text : List ℕ) (params : Row) (schema : Schema) (quiet : IsQuiet (understood schema text)) (old new : State) (has : old.now.schema ≡ schema) where
   same_after : (rows : List Row) → Shown text params old new rows → new.now ≡ old.now
@@ -49,6 +72,19 @@ module _ (text : List ℕ) (params : Row) (schema : Schema) (quiet : IsQuiet (un
   same_failing e settled (inl (inl none)) stays = none.1.0.now_is
   same_failing e settled (inl (inr fails)) stays = (fails.3.undone stays).0 ∙ sym (settled (fails.3.was_open stays))
   same_failing e settled (inr h) stays = fails_unchanged text params old new schema has (plain_of schema text h.0 (subst (λ s. understood s text ≡ Ok h.0) has h.1.is) quiet) e settled (inr h) stays
+
+  -- one that fails does so for no row
+  no_row : (e : Error) → FailsToQuery text params old new e → is_of_row (Sqlite e) ≡ false
+  unfolding FailsToQuery IsNotRun
+  no_row e (inl (inl (inl none, _))) = ap (λ e. is_of_row (Sqlite e)) none.2
+  no_row e (inl (inl (inr (c, is, inl many), _))) = ap (λ e. is_of_row (Sqlite e)) many.1
+  no_row e (inl (inl (inr (c, is, inr (inl given)), _))) = ap (λ e. is_of_row (Sqlite e)) given.1
+  no_row e (inl (inl (inr (c, is, inr (inr clock)), _))) = ap (λ e. is_of_row (Sqlite e)) clock.1
+  no_row e (inl (inr fails)) = ap (λ e. is_of_row (Sqlite e)) fails.1 ∙ no_row_of_store fails.0
+  no_row e (inr h) =
+      let known = sym h.1.is ∙ ap (λ s. understood s text) has in
+      let bare = subst IsPlain (sym known) (plain_of schema text h.0 (sym known) quiet) in
+      no_row_read old.step_limit h.0.command _ _ e (rw (bare.0) at h.2).2
 
   none_committed : (db : Trees) → ¬ CommitsShowing text params old db
   unfolding CommitsShowing
@@ -66,6 +102,10 @@ module _ (text : List ℕ) (quiet : (layout : Layout) (version : Version) → Is
   pub fails_holding : (version : Version) (ledger : Ledger) → HoldsAs version old.now ledger → (e : Error) → (IsTrue old.is_open → old.now ≡ old.committed) → FailsToQuery text params old new e → IsTrue new.is_open
       → HoldsAs version new.now ledger
   fails_holding version ledger held e settled h stays = subst (λ d. HoldsAs version d ledger) (sym (same_failing text params (schema_of (layout_in old.now) version) (quiet (layout_in old.now) version) old new held.schema e settled h stays)) held
+
+  -- nor does a read that fails call a row damaged
+  pub fails_back : (layout : Layout) (version : Version) → old.now.schema ≡ schema_of layout version → (e : Error) → FailsToQuery text params old new e → is_of_row (Sqlite e) ≡ false
+  fails_back layout version has e h = no_row text params (schema_of layout version) (quiet layout version) old new has e h
 
   pub commits_none : (version : Version) (ledger : Ledger) → HoldsAs version old.now ledger → (db : Trees) → ¬ CommitsShowing text params old db
   commits_none version ledger held db = none_committed text params (schema_of (layout_in old.now) version) (quiet (layout_in old.now) version) old new held.schema db

@@ -22,3 +22,4 @@ pub mod Told
 pub mod Reads
 pub mod Loads
 pub mod Shows
+pub mod ReadsBack

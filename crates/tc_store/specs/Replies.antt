@@ -56,6 +56,10 @@ find_tests = op2 (Compare Eq Binary) (col 1 1) (col 0 0) ∷ op2 (Compare Eq Bin
 abbrev pub find_columns : List Term
 find_columns = col 1 3 ∷ []
 
+-- what it shows of a reply
+abbrev pub body_values : KeptAnswer → Row
+body_values k = Text k.body ∷ []
+
 -- the text that reads a page of them, from a number under which one stands, and the columns that it shows
 abbrev pub reply_page_text : List ℕ
 reply_page_text = PAGE_TEXT.now

@@ -29,19 +29,40 @@ pub enum StoreFault {
 pub enum ReadFault {
     /// The database failed, or memory was refused.
     #[error("reading: {0}")]
-    Sqlite(#[from] sqlite::Error),
+    Sqlite(#[source] sqlite::Error),
     /// A row is not one that the desk writes.
     #[error("a row is not as the desk writes it")]
     Damaged,
 }
 
+impl From<sqlite::Error> for ReadFault {
+    ghost use Rattle.std.specs.Prelude.{◌≡◌};
+    ghost use Rattle.tc_store.specs.declared.faults.ReadFault.TheVariants.{Sqlite};
+
+    ghost from_gives = { λ error fault. fault ≡ Sqlite error };
+
+    fn from(error: sqlite::Error) -> ReadFault {
+        ReadFault::Sqlite(error)
+    }
+}
+
 impl From<AllocError> for ReadFault {
+    ghost use Rattle.std.specs.Prelude.{◌≡◌};
+    ghost use Rattle.tc_store.specs.ReadsBack.{no_memory};
+
+    ghost from_gives = { λ _ fault. fault ≡ no_memory };
+
     fn from(error: AllocError) -> ReadFault {
         ReadFault::Sqlite(sqlite::Error::from(error))
     }
 }
 
 impl<T: Drop> From<AllocFailed<T>> for ReadFault {
+    ghost use Rattle.std.specs.Prelude.{◌≡◌};
+    ghost use Rattle.tc_store.specs.ReadsBack.{no_memory};
+
+    ghost from_gives = { λ _ fault. fault ≡ no_memory };
+
     fn from(error: AllocFailed<T>) -> ReadFault {
         ReadFault::Sqlite(sqlite::Error::from(error))
     }

@@ -1,8 +1,13 @@
 //! The table `reply`.
-ghost use Rattle.std.specs.Prelude.{◌≡◌, ℕ, [], Some, None, get_or, option_map, string_bytes, IfOk, IfSome};
+ghost use Rattle.std.specs.Prelude.{◌≡◌, ℕ, List, [], Some, None, get_or, map, option_map, string_bytes, IfOk, IfSome};
 ghost use Rattle.sqlite_value.specs.declared.value.Value.TheVariants.{Text};
 ghost use Rattle.sqlite_value.specs.Order.{column};
-ghost use Rattle.tc_store.specs.Ledgers.{IsKeptText, Ledger, answer_of, kept_in, reply_at};
+ghost use Rattle.sqlite.specs.State.{HasCleanDisk};
+ghost use Rattle.sqlite.specs.Held.{state};
+ghost use Rattle.std.specs.List.{AllByRecursion};
+ghost use Rattle.tc_store.specs.Replies.{body_values};
+ghost use Rattle.tc_store.specs.ReadsBack.{OnlyMemory, ReadsBack};
+ghost use Rattle.tc_store.specs.Ledgers.{KeptAnswer, IsKeptAnswer, IsKeptText, Ledger, answer_of, kept_in, reply_at};
 ghost use Rattle.tc_store.specs.Schema.{Holds};
 ghost use Rattle.tc_store.specs.Steps.{Does, Replied};
 ghost use Rattle.tc_store.specs.Reads.{Reads};
@@ -50,6 +55,7 @@ fn first_text(rows: &[Row]) -> Result<Option<String>, ReadFault>
     ensures none { IfOk result (λ found. found ≡ None → rows.now ≡ []) }
     ensures some { IfOk result (λ found. IfSome found (λ text. column (get_or rows.now 0 []) 0 ≡ Text (string_bytes text))) }
     ensures told { IfOk result (λ found. IfSome found (λ text. IsKeptText (string_bytes text))) }
+    ensures back { (kept : List KeptAnswer) → AllByRecursion IsKeptAnswer kept → rows.now ≡ map body_values kept → OnlyMemory result }
 {
     match rows.first() {
         Some(row) => Ok(Some(kept_text_at(row, 0)?)),
@@ -65,6 +71,8 @@ pub(crate) fn reply_of<S: Alter>(
 ) -> Result<Option<String>, ReadFault>
     ensures reads { Reads S.Store (λ db found. (ledger : Ledger) → Holds db ledger → option_map string_bytes found ≡ reply_at ledger.replies person number) conn.old conn.new result }
     ensures told { IfOk result (λ found. IfSome found (λ text. IsKeptText (string_bytes text))) }
+    // over the tables of a desk, no reply that it keeps is called damaged
+    ensures back { HasCleanDisk (state S.Store conn.new) → (ledger : Ledger) → Holds (state S.Store conn.old).now ledger → AllByRecursion IsKeptAnswer ledger.replies → ReadsBack result }
 {
     let name = person.name();
     let number = number.get();

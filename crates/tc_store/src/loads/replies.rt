@@ -1,5 +1,5 @@
 //! The table `reply`, judged in pages, of which none is kept.
-ghost use Rattle.std.specs.Prelude.{◌≡◌, drop, length, IfOk, OnOk};
+ghost use Rattle.std.specs.Prelude.{◌≡◌, ℕ, List, drop, length, IfOk, OnOk};
 ghost use Rattle.std.specs.List.{AllByRecursion};
 ghost use Rattle.sqlite_value.specs.declared.value.Value.TheVariants.{Text};
 ghost use Rattle.sqlite_value.specs.Order.{Row as Values, column};
@@ -10,6 +10,7 @@ ghost use Rattle.tc_store.specs.CallNumbers.{IsCallNumber};
 ghost use Rattle.tc_store.specs.Schema.{schema_of};
 ghost use Rattle.tc_store.specs.Shows.{ShowsNumber, AreOfReply, AreJudged};
 ghost use Rattle.tc_store.specs.Reads.{Reads};
+ghost use Rattle.tc_store.specs.ReadsBack.{OnlyMemory};
 
 use crate::call_numbers::CallNumber;
 use crate::cells::{kept_text_at, name_at, number_at, signed_at};
@@ -30,6 +31,7 @@ const PAGE_TEXT: &str =
 fn person_at(row: &Row, at: usize) -> Result<Person, ReadFault>
     ensures reads { IfOk result (λ person. column row.now at ≡ Text person) }
     ensures told { IfOk result (λ person. IsPerson person) }
+    ensures back { (was : List ℕ) → IsPerson was → column row.now at ≡ Text was → OnlyMemory result }
 {
     let name = name_at(row, at)?;
     Person::new(name).ok_or(ReadFault::Damaged)
@@ -39,6 +41,7 @@ fn person_at(row: &Row, at: usize) -> Result<Person, ReadFault>
 fn call_at(row: &Row, at: usize) -> Result<CallNumber, ReadFault>
     ensures reads { IfOk result (ShowsNumber row.now at) }
     ensures told { IfOk result (λ number. IsCallNumber number) }
+    ensures back { (n : ℕ) → IsCallNumber n → ShowsNumber row.now at n → OnlyMemory result }
 {
     let number = number_at(row, at)?;
     CallNumber::new(number).ok_or(ReadFault::Damaged)
@@ -46,7 +49,8 @@ fn call_at(row: &Row, at: usize) -> Result<CallNumber, ReadFault>
 
 /// Finds that a row is one that a desk could have kept.
 fn judge_reply(row: &Row) -> Result<(), ReadFault>
-    ensures { OnOk result (length row.now ≡ 4 → AreOfReply (drop 1 row.now)) }
+    ensures judged { OnOk result (length row.now ≡ 4 → AreOfReply (drop 1 row.now)) }
+    ensures back { AreOfReply (drop 1 row.now) → OnlyMemory result }
 {
     let _ = person_at(row, 1)?;
     let _ = call_at(row, 2)?;
@@ -56,7 +60,8 @@ fn judge_reply(row: &Row) -> Result<(), ReadFault>
 
 /// Finds it of each of these rows.
 fn judge_all(rows: &[Row]) -> Result<(), ReadFault>
-    ensures { OnOk result (AllByRecursion (λ (row : Values). length row ≡ 4) rows.now → AllByRecursion (λ (row : Values). AreOfReply (drop 1 row)) rows.now) }
+    ensures judged { OnOk result (AllByRecursion (λ (row : Values). length row ≡ 4) rows.now → AllByRecursion (λ (row : Values). AreOfReply (drop 1 row)) rows.now) }
+    ensures back { AllByRecursion (λ (row : Values). AreOfReply (drop 1 row)) rows.now → OnlyMemory result }
 {
     'rows: for row in rows {
         judge_reply(row)?;

@@ -46,7 +46,7 @@ pages-preserved g c =
       λ clean layout of replies has numbered.
           subst (AreJudgedTo ((state g.S.Store first).now.trees (reply_tree layout))) (sym next) (
           judged_on layout of replies (to_z w64 c.pages.first-bits) (state g.S.Store first).now (state g.S.Store mid) (state g.S.Store last) page seen ((was.0 (earlier clean)).same layout of has) has numbered (was.2 (earlier clean) layout of replies has numbered)
-          (rw (c.params-to_sql.ensures) at (c.in_ok-rows.ensures.rows clean)) c.as_slice.ensures.value c.in_ok-judge_all.ensures 99 c.in-Some.last.now number many ends c.in_ok-number-in-Some.ensures.reads),
+          (rw (c.params-to_sql.ensures) at (c.in_ok-rows.ensures.rows clean)) c.as_slice.ensures.value c.in_ok-judge_all.ensures.judged 99 c.in-Some.last.now number many ends c.in_ok-number-in-Some.ensures.reads),
     )
 
 -- a page behind which no other is read is not full
@@ -69,7 +69,7 @@ returns-in_default g c = record {
         let was = c.pages.invariant in
         let earlier : HasCleanDisk (state g.S.Store c.pages.conn) = omega (arith, clean, c.rows_of.ensures.left.crash.clean) in
         judged_out layout of replies (to_z w64 c.pages.first-bits) (state g.S.Store c.args.conn.now).now (state g.S.Store c.pages.conn) (state g.S.Store c.rows_of.new.conn) c.in_ok-rows.rows.items c.as_slice.result.now ((was.0 earlier).same layout of has) has numbered
-        (was.2 earlier layout of replies has numbered) (rw (c.params-to_sql.ensures) at (c.in_ok-rows.ensures.rows clean)) c.as_slice.ensures.value c.in_ok-judge_all.ensures (short g c);
+        (was.2 earlier layout of replies has numbered) (rw (c.params-to_sql.ensures) at (c.in_ok-rows.ensures.rows clean)) c.as_slice.ensures.value c.in_ok-judge_all.ensures.judged (short g c);
     same = λ clean. stays_then g.S.Store c.args.conn.now c.pages.conn c.rows_of.new.conn (c.pages.invariant.0 (omega (arith, clean, c.rows_of.ensures.left.crash.clean))) (c.in_ok-rows.ensures.same clean);
     left = spares_then g.S.Store c.args.conn.now c.pages.conn c.rows_of.new.conn c.pages.invariant.0 c.pages.invariant.1 c.rows_of.ensures.left;
   });
