@@ -127,7 +127,7 @@ module _ {S : Type 0} (g : Ghosts S) (replies : List KeptAnswer) (caller : Calle
 
   asked_from : (stamp : Stamp) (given : Act) (reply : Reply) → StepsDesk g replies (at_desk desk first one) stamp given reply new ⊎ FailsStore g replies (at_desk desk first one) stamp given reply new
       → StepsDesk g replies (at_desk desk second other) stamp given reply new ⊎ FailsStore g replies (at_desk desk second other) stamp given reply new
-  asked_from stamp given reply (inl steps) = inl (record { desk = steps.desk; tables = steps.tables; opened = steps.opened; going = steps.going })
+  asked_from stamp given reply (inl steps) = inl (record { desk = steps.desk; urgent = steps.urgent; tables = steps.tables; opened = steps.opened; going = steps.going })
   asked_from stamp given reply (inr fails) = inr (record { free = fails.free; reply = fails.reply; stopped = fails.stopped; tables = fails.tables; crash = fails.crash; opened = fails.opened })
 
   acts_from : (moment : Option ℕ) (text : List ℕ) (acts : Bool) (reply : Reply) → ActsAnew g moment text replies caller (at_desk desk first one) acts reply new → ActsAnew g moment text replies caller (at_desk desk second other) acts reply new

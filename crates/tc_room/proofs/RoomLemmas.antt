@@ -34,7 +34,8 @@ use Rattle.tc_world.specs.declared.configs.Config.{Config}
 use Rattle.tc_desk.specs.declared.firsts.FirstLine.{FirstLine}
 use Rattle.tc_desk.specs.Acts.{is_question, refusal_of}
 use Rattle.tc_desk.specs.Machine.{Carries, DeskStep, Does, Refuses, Serves, StaysSame, rows_new}
-use Rattle.tc_desk.specs.Replies.{Reply, act_reply, history_lines, Replies, refusal_reply, request_lines, standing_lines}
+use Rattle.tc_desk.specs.Replies.{Reply, act_reply, history_lines, Replies, refusal_reply, request_lines, requests_in, standing_lines}
+use Rattle.tc_urgent.specs.Pages.{ShowsUrgent}
 use Rattle.tc_store.specs.Ledgers.{KeptAnswer, empty_ledger}
 use Rattle.tc_store.specs.Schema.{Holds}
 use Rattle.tc_store.specs.Steps.{LeavesOnly}
@@ -45,7 +46,7 @@ use Rattle.tc_room.specs.Joined.{HasLedger, HoldsBook, IsKept, LinkState, Standi
 use Rattle.tc_room.specs.Answers.{IsUnread}
 use Rattle.tc_room.proofs.TableLemmas.{only_ledger}
 use Rattle.tc_room.proofs.ToldLemmas.{good_told}
-use Rattle.tc_room.specs.Room.{IsNewDesk, MakesBook, RoomStep}
+use Rattle.tc_room.specs.Room.{IsNewDesk, MakesBook, RoomStep, TellsUrgent}
 
 -- a room goes on: its flag, as its view told it
 pub goes_on : {S : Type 0} (inside view : Standing S) (told : Bool) → inside ≡ view → told ≡ view.stopped → told ≡ false → inside.stopped ≡ false
@@ -54,21 +55,34 @@ goes_on {S} inside view told same is none = ap (λ (s : Standing S). s.stopped) 
 -- the desk machine's step, of which the tables that hold its book may tell, and the tables that hold it then
 pub steps_read : {S : Type 0} (g : Ghosts S) (old new : Standing S) (stamp : Stamp) (given : Act) (reply : Reply) → old.stopped ≡ false
     → ((replies : List KeptAnswer) → HoldsBook g old replies → HasCleanDisk (state g new.tables) → DeskStep either either old.desk stamp given reply new.desk × HasLedger g new.tables (ledger_of new.desk.book replies))
-    → new.opened ≡ old.opened → new.stopped ≡ false → RoomStep g old stamp given reply new
-steps_read g old new stamp given reply going step opened goes = λ replies held clean.
+    → new.opened ≡ old.opened → new.stopped ≡ false → TellsUrgent old given reply → RoomStep g old stamp given reply new
+steps_read g old new stamp given reply going step opened goes urgent = λ replies held clean.
     let made = step replies held clean in
-    rw going (inl (record { desk = made.0; tables = made.1; opened = opened; going = goes }))
+    rw going (inl (record { desk = made.0; urgent = urgent; tables = made.1; opened = opened; going = goes }))
 
 -- a step of which they tell nothing
 pub steps : {S : Type 0} (g : Ghosts S) (old new : Standing S) (stamp : Stamp) (given : Act) (reply : Reply) → old.stopped ≡ false
     → DeskStep either either old.desk stamp given reply new.desk → ((replies : List KeptAnswer) → HoldsBook g old replies → HasCleanDisk (state g new.tables) → HasLedger g new.tables (ledger_of new.desk.book replies))
-    → new.opened ≡ old.opened → new.stopped ≡ false → RoomStep g old stamp given reply new
-steps g old new stamp given reply going step holds opened goes = steps_read g old new stamp given reply going (λ replies held clean. (step, holds replies held clean)) opened goes
+    → new.opened ≡ old.opened → new.stopped ≡ false → TellsUrgent old given reply → RoomStep g old stamp given reply new
+steps g old new stamp given reply going step holds opened goes urgent =
+    steps_read g old new stamp given reply going (λ replies held clean. (step, holds replies held clean)) opened goes urgent
 
 -- so it is of what changes no table
 pub steps_same : {S : Type 0} (g : Ghosts S) (at : Standing S) (stamp : Stamp) (given : Act) (reply : Reply) → at.stopped ≡ false
-    → DeskStep either either at.desk stamp given reply at.desk → RoomStep g at stamp given reply at
-steps_same g at stamp given reply going step = steps g at at stamp given reply going step (λ replies held clean. held going clean) refl going
+    → DeskStep either either at.desk stamp given reply at.desk → TellsUrgent at given reply → RoomStep g at stamp given reply at
+steps_same g at stamp given reply going step urgent = steps g at at stamp given reply going step (λ replies held clean. held going clean) refl going urgent
+
+-- an act is no question of what is urgent
+pub acts_else : {S : Type 0} (room : Standing S) (given : Act) (reply : Reply) → is_question given ≡ false → TellsUrgent room given reply
+acts_else room given reply acts = λ from is.
+    let asks : is_question given ≡ true = ap is_question is in
+    let clash : true ≡ false = sym asks ∙ acts in cc
+
+-- the page by this room's own opening
+pub tells_page : {S : Type 0} (room : Standing S) (from : ℕ) (reply : Reply) → ShowsUrgent room.desk.book room.opened (requests_in room.desk.mirror) from reply → TellsUrgent room (act.Ask (query.Urgent from)) reply
+tells_page room from reply shows = λ other is.
+    let same : from ≡ other = cc in
+    inr (subst (λ n. ShowsUrgent room.desk.book room.opened (requests_in room.desk.mirror) n reply) same shows)
 
 -- the database failed
 pub fails : {S : Type 0} (g : Ghosts S) (old new : Standing S) (stamp : Stamp) (given : Act) → old.stopped ≡ false → refusal_of stamp old.desk given ≡ None → new.stopped ≡ true

@@ -1,5 +1,5 @@
 -- The room: a desk whose book stands in tables too, until the tables fail.
-use Rattle.std.specs.Prelude.{◌≡◌, ◌↔◌, ◌⊎◌, true, false, None, MatchBool, IsTrue, Result, Ok, Err, List, []}
+use Rattle.std.specs.Prelude.{◌≡◌, ◌↔◌, ◌⊎◌, ℕ, true, false, None, MatchBool, IsTrue, Result, Ok, Err, List, []}
 use Rattle.sqlite_trees.specs.declared.store.Store.{Ghosts}
 use Rattle.sqlite.specs.Held.{state}
 use Rattle.sqlite.specs.State.{HasCleanDisk}
@@ -8,6 +8,8 @@ use Rattle.tc_types.specs.declared.link.reports.Report.{Report}
 use Rattle.tc_types.specs.declared.refusals.Refusal.{Refusal}
 use Rattle.tc_types.specs.declared.refusals.Refusal.TheVariants.{Store, Stopped}
 use Rattle.tc_types.specs.declared.acts.Act.{Act}
+use Rattle.tc_types.specs.declared.acts.Act.TheVariants as act
+use Rattle.tc_types.specs.declared.acts.Query.TheVariants as query
 use Rattle.tc_world.specs.EitherLink.{IsMade, either}
 use Rattle.tc_book.specs.declared.stamps.Stamp.{Stamp}
 use Rattle.tc_book.specs.Book.{Book}
@@ -16,7 +18,8 @@ use Rattle.tc_desk.specs.State.{new_desk}
 use Rattle.tc_desk.specs.Acts.{refusal_of}
 use Rattle.tc_desk.specs.Promise.{KeepsPromise}
 use Rattle.tc_desk.specs.Machine.{DeskStep}
-use Rattle.tc_desk.specs.Replies.{Reply, refusal_reply}
+use Rattle.tc_desk.specs.Replies.{Reply, refusal_reply, requests_in}
+use Rattle.tc_urgent.specs.Pages.{ShowsUrgent}
 use Rattle.tc_store.specs.Ledgers.{KeptAnswer}
 use Rattle.tc_store.specs.Schema.{Holds}
 use Rattle.tc_room.specs.Crash.{LeavesActs, ledger_of}
@@ -35,9 +38,15 @@ pub record IsJustOpened {S : Type 0} (g : Ghosts S) (config : Config) (room : St
   pub tables : HoldsBook g room []
   pub going : room.stopped ≡ false
 
+-- A reply to `urgent` shows the page by the moves that stood once this room was opened, or refuses.
+abbrev pub TellsUrgent : {S : Type 0} → Standing S → Act → Reply → Type 0
+TellsUrgent room given reply = (from : ℕ) → given ≡ act.Ask (query.Urgent from)
+    → ((refusal : Refusal) × (reply ≡ refusal_reply refusal)) ⊎ ShowsUrgent room.desk.book room.opened (requests_in room.desk.mirror) from reply
+
 -- the desk machine made a step, and the tables hold its book, with the replies as they were
 pub record StepsDesk {S : Type 0} (g : Ghosts S) (replies : List KeptAnswer) (old : Standing S) (stamp : Stamp) (given : Act) (reply : Reply) (new : Standing S) : Type 0 where
   pub desk : DeskStep either either old.desk stamp given reply new.desk
+  pub urgent : TellsUrgent old given reply
   pub tables : HasLedger g new.tables (ledger_of new.desk.book replies)
   -- as many rows stood once the desk was made
   pub opened : new.opened ≡ old.opened
