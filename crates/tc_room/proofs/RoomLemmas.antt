@@ -1,5 +1,5 @@
 -- The steps of a room.
-use Rattle.std.proofs.Common.{◌≡◌, ◌∙◌, inl, inr, ℕ, zero, suc, nat_lt, map, take, [], ◌∷◌, arith, Bool, true, false, Option, Some, None, Result, Ok, Err, List, refl, sym, ap, subst, length}
+use Rattle.std.proofs.Common.{◌≡◌, ◌∙◌, ◌⊎◌, inl, inr, ℕ, zero, suc, nat_lt, map, take, [], ◌∷◌, arith, Bool, true, false, Option, Some, None, Result, Ok, Err, List, refl, sym, ap, subst, length}
 use Rattle.std.specs.Prelude.{◌≢◌, ◌≤◌, ◌↔◌, IsErrAnd, IsTrue, is_none, ok_or}
 use Rattle.std.specs.Result.{result_ok}
 use Rattle.std.proofs.lemmas.List.{length-map, length-take}
@@ -34,7 +34,7 @@ use Rattle.tc_world.specs.declared.configs.Config.{Config}
 use Rattle.tc_desk.specs.declared.firsts.FirstLine.{FirstLine}
 use Rattle.tc_desk.specs.Acts.{is_question, refusal_of}
 use Rattle.tc_desk.specs.Machine.{Carries, DeskStep, Does, Refuses, Serves, StaysSame, rows_new}
-use Rattle.tc_desk.specs.Replies.{Reply, act_reply, history_lines, Replies, refusal_reply, request_lines, requests_in, standing_lines}
+use Rattle.tc_desk.specs.Replies.{Reply, act_reply, history_lines, Replies, refusal_reply, request_lines, standing_lines}
 use Rattle.tc_urgent.specs.Pages.{ShowsUrgent}
 use Rattle.tc_store.specs.Ledgers.{KeptAnswer, empty_ledger}
 use Rattle.tc_store.specs.Schema.{Holds}
@@ -78,11 +78,12 @@ acts_else room given reply acts = λ from is.
     let asks : is_question given ≡ true = ap is_question is in
     let clash : true ≡ false = sym asks ∙ acts in cc
 
--- the page by this room's own opening
-pub tells_page : {S : Type 0} (room : Standing S) (from : ℕ) (reply : Reply) → ShowsUrgent room.desk.book room.opened (requests_in room.desk.mirror) from reply → TellsUrgent room (act.Ask (query.Urgent from)) reply
-tells_page room from reply shows = λ other is.
+-- a page that is shown, as `TellsUrgent` says it
+pub tells_page : (book : Book) (opened : ℕ) (scheduled : List ℕ) (from : ℕ) (reply : Reply) → ShowsUrgent book opened scheduled from reply
+    → (other : ℕ) → act.Ask (query.Urgent from) ≡ act.Ask (query.Urgent other) → ((refusal : Refusal) × (reply ≡ refusal_reply refusal)) ⊎ ShowsUrgent book opened scheduled other reply
+tells_page book opened scheduled from reply shows other is =
     let same : from ≡ other = cc in
-    inr (subst (λ n. ShowsUrgent room.desk.book room.opened (requests_in room.desk.mirror) n reply) same shows)
+    inr (subst (λ n. ShowsUrgent book opened scheduled n reply) same shows)
 
 -- the database failed
 pub fails : {S : Type 0} (g : Ghosts S) (old new : Standing S) (stamp : Stamp) (given : Act) → old.stopped ≡ false → refusal_of stamp old.desk given ≡ None → new.stopped ≡ true
