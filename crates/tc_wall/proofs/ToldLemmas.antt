@@ -88,7 +88,7 @@ of_opened opening = record { is = refl }
 of_file : (opening : Option Opening) → Tells (file_parts opening) []
 unfolding file_parts
 of_file (Some opening) = of_opened opening
-of_file None = record { is = refl }
+of_file None = of_fixed _
 
 of_entered : (entered : ℕ) → Tells (entered_parts entered) []
 unfolding entered_parts
@@ -144,9 +144,17 @@ unfolding other_parts
 of_other None = record { is = refl }
 of_other (Some person) = record { is = refl }
 
+of_approvals : (w : Wanting) → Tells (approvals_parts w) []
+unfolding approvals_parts
+of_approvals w = record { is = refl }
+
+of_author : (author : List ℕ) → Tells (author_parts author) []
+unfolding author_parts
+of_author author = record { is = refl }
+
 of_wanting : (w : Wanting) → Tells (wanting_parts w) []
-unfolding wanting_parts approvals_parts author_parts
-of_wanting w = quiet _ _ (quiet _ _ (record { is = refl }) (record { is = refl })) (of_other w.by)
+unfolding wanting_parts
+of_wanting w = quiet _ _ (quiet _ _ (of_approvals w) (of_author w.author)) (of_other w.by)
 
 of_approval : (waits : Option Waiting) → Tells (approval_parts waits) []
 of_approval None = of_fixed _

@@ -28,7 +28,7 @@ pub(crate) const STYLE: &str =
 body {
   display: grid; gap: 6px; padding: 6px; min-height: 100vh;
   grid-template: "heading heading moves" auto "tiles tiles moves" auto "link link moves" auto "urgent ways moves" auto "schedule ways moves" 1fr
-    / fit-content(700px) minmax(0, 1fr) auto;
+    / fit-content(650px) minmax(0, 1fr) auto;
   background: var(--ground); color: var(--text);
   font: 13px/18px "DejaVu Sans", Verdana, "Segoe UI", "Helvetica Neue", Arial, sans-serif; font-variant-numeric: tabular-nums;
 }
@@ -76,13 +76,13 @@ header .file { background: var(--text); color: var(--ground); font-weight: bold;
 .tile.zero small { color: #71809a; }
 
 /* (c) what is open */
-.urgent { grid-area: urgent; min-width: 640px; overflow-wrap: break-word; }
+.urgent { grid-area: urgent; min-width: 600px; overflow-wrap: break-word; }
 .urgent td { vertical-align: top; }
 .urgent td:first-child { border-left: 6px solid var(--line); padding-left: 6px; }
 .urgent td:nth-child(2), .urgent td:nth-child(3), .urgent td:last-child { white-space: nowrap; }
 .urgent td:last-child, .urgent th:last-child { text-align: right; padding-right: 0; }
-.urgent:not(:has(tbody tr:nth-child(25))) { font-size: 14px; line-height: 20px; }
-.urgent:not(:has(tbody tr:nth-child(25))) td { padding-top: 3px; padding-bottom: 3px; }
+.few .urgent { font-size: 14px; line-height: 20px; }
+.few .urgent td, .urgent:not(:has(tbody tr:nth-child(11))) td { padding-top: 3px; padding-bottom: 3px; }
 .urgent:not(:has(tbody tr:nth-child(11))) { font-size: 16px; line-height: 24px; }
 .urgent .InDoubt { background: #5a2800; font-weight: bold; }
 .urgent .InDoubt td:first-child { border-color: var(--vermilion); }
@@ -183,7 +183,7 @@ rect.Doubtful { fill: url(#hatch); }
   #age, #silent { display: none; }
   body { display: block; font-size: 11px; line-height: 15px; padding: 0; min-height: 0; }
   section { padding: 0; margin-bottom: 14px; }
-  .urgent:not(:has(tbody tr:nth-child(25))), .few .ways, .few .schedule { font-size: 13px; line-height: 17px; }
+  .urgent, .urgent:not(:has(tbody tr:nth-child(11))), .few .ways, .few .schedule { font-size: 13px; line-height: 17px; }
   h2 { break-after: avoid; border-bottom: 2px solid #000; margin-bottom: 3px; }
   thead { display: table-header-group; }
   tr, li, .tile, .link, .schedule { break-inside: avoid; }
