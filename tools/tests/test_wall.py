@@ -97,6 +97,7 @@ LINE = re.compile("(?P<what>request|execution) (?P<number>[0-9]+)(?: (?P<name>[0
 SAID = {"in doubt": "IN DOUBT: on board or not?", "failed": "FAILED", "waits for approval": "approval ", "step due": "step ", "flying": "on its way, or on board",
         "report lost": "REPORT LOST, or late", "free": "release", "activity of": "activity of {}: do not release", "locked for ever": "LOCKED FOR EVER by line ",
         "locked": "locked by line "}
+HEADER = f"{os.path.dirname(MADE)}/../../tc_api/src/responses.rt"
 CLOSED = "no failed request is listed; each scheduled one counts as on board"
 STRICT = "default-src 'none'; style-src 'unsafe-inline'; img-src data:"
 SCRIPT = "\n" + wall.fixed("script.js")
@@ -557,6 +558,8 @@ class Parts(unittest.TestCase):
                 self.assertEqual(SIGNATURES, re.findall("<p>(.*?)</p>", text[text.index('class="sign"'):]))
 
     def test_constants(self) -> None:
-        """The crate has them as they are: after an edit tools/page_parts.py writes its constants."""
+        """The crate has them as they are: after an edit tools/page_parts.py writes its constants. The header of the response has the same policy."""
         with open(MADE, encoding="ascii") as file:
             self.assertEqual(made(), file.read())
+        with open(HEADER, encoding="utf-8") as file:
+            self.assertEqual([f"{policy()}; frame-ancestors 'none'"], re.findall(r"Content-Security-Policy: (.*?)\\r", file.read()))

@@ -8,6 +8,7 @@ use Rattle.serde_json.specs.Data.{Data, Items, array, member, no_members, number
 use Rattle.serde_json.specs.View.{items_of}
 use Rattle.serde_json.specs.Written.{compact_text}
 pub use Rattle.tc_front.specs.Lines.{length_line, line_end}
+use Rattle.tc_wall.specs.declared.fixed.TheConstants.{POLICY}
 use Rattle.tc_api.specs.declared.endings.Ending.{Ending}
 use Rattle.tc_api.specs.Endings.{refusal_number, status_number, status_of}
 

@@ -30,7 +30,7 @@ use Rattle.tc_wall.specs.Bounds.{last_of, left_out_parts, none_parts}
 use Rattle.tc_wall.specs.declared.walls.Opening.{Opening}
 use Rattle.tc_wall.specs.Heading.{file_parts, opened_parts, entered_parts, moved_parts, last_parts, heading_parts}
 use Rattle.tc_wall.specs.Tiles.{count_at, tile_begins, tile_label, tile_head_parts, count_parts, next_parts, counts_parts, tile_parts, open_tiles_parts, final_tiles_parts, tiles_parts}
-use Rattle.tc_wall.specs.Waits.{activity_parts as insert_parts, approval_parts, approvals_parts, author_parts, forever_parts, kind_says, line_parts, lock_parts, locked_parts, next_parts as due_parts, other_parts, says_parts, step_parts, text_of, wanting_parts}
+use Rattle.tc_wall.specs.Waits.{activity_parts as insert_parts, approval_parts, approvals_parts, author_parts, forever_parts, line_parts, lock_parts, locked_parts, next_parts as due_parts, other_parts, says_parts, step_parts, text_of, wanting_parts}
 use Rattle.tc_wall.specs.Urgents.{age_parts, begin_parts, critical_parts, group_of, group_parts, left_first_parts, left_last_parts, left_parts, marked_parts, on_board_parts, same_parts, subject_parts, two_parts, urgent_parts, urgents_parts, waited_parts}
 use Rattle.tc_wall.specs.LinkParts.{worded_parts, number_parts, share_parts, flies_parts, queue_parts, counter_parts, fop_parts, farm_parts, section_begins, premise_parts, link_parts}
 use Rattle.tc_wall.specs.ScheduleParts.{enabled_parts, activity_parts, known_schedule_parts}

@@ -2,7 +2,7 @@
 
 /// The policy of an open desk's page: its style and its one script are its own, and it asks its own desk alone.
 pub const POLICY: &str =
-    "default-src 'none'; style-src 'unsafe-inline'; img-src data:; script-src 'sha256-WFnSHxfpE+/yMjL/MjvgVSppN3ZnVsZXNoNEyM0HCH8='; connect-src 'self'";
+    "default-src 'none'; style-src 'unsafe-inline'; img-src data:; script-src 'sha256-XRfavC3Kd4vrs8ZeNuy/OQZ26ZZC8JYEeCosauWwpwU='; connect-src 'self'";
 
 /// The head of the page, up to its style.
 pub(crate) const HEAD: &str = r##"<!doctype html>
@@ -222,7 +222,7 @@ pub(crate) const LIVE: &str = r##"">
 
 /// The script.
 pub(crate) const SCRIPT: &str =
-    r##"// Asks for the board again every 5 seconds and shows it in place of the last one. While none comes, the last one stays, below a red line that says since when.
+    r##"// Asks for the board again every 5 seconds and shows it in place of the last one. If none comes, the last one stays, below a red line that says since when.
 (() => {
   const EVERY = 5, PATIENCE = 10;
   let answered = Date.now(), why = '', asking = false;
@@ -239,12 +239,14 @@ pub(crate) const SCRIPT: &str =
     it.hidden = !text;
   };
 
-  // how old the last move is, and how long there was no board, by the clock of this browser
+  // how old the last move is, and since when there is no new board, by the clock of this browser
   const tell = () => {
     const moved = document.getElementById('moved');
     const age = moved ? Math.floor(Date.now() / 1000) - Number(moved.dataset.at) : 0;
     line('age', !moved ? '' : age < 0 ? 'which is later than the clock here' : `${span(age)} ago`);
-    line('silent', why && `NO BOARD since ${clock(answered)} UTC, ${span(Math.floor((Date.now() - answered) / 1000))}: ${why}. This is the last one.`);
+    const gone = Math.floor((Date.now() - answered) / 1000);
+    const silent = why || gone > EVERY + PATIENCE ? why || 'no answer' : '';
+    line('silent', silent && `NO BOARD since ${clock(answered)} UTC, ${span(gone)}: ${silent}. This is the last one.`);
   };
 
   const show = (text) => {
@@ -270,6 +272,7 @@ pub(crate) const SCRIPT: &str =
   };
 
   document.addEventListener('DOMContentLoaded', tell);
+  document.addEventListener('visibilitychange', ask);
   setInterval(tell, 1000);
   setInterval(ask, EVERY * 1000);
 })();
