@@ -11,6 +11,7 @@ from typing import Any, Callable, NamedTuple, NoReturn, Optional, Sequence, Unio
 
 from model.facts import (FOREIGN_STATUS, LAST_MOMENT, LAST_NUMBER, LONGEST_ACT, LONGEST_BODY, LONGEST_HEAD, LONGEST_TEXT, MARK, MOST_ANSWERED, MOST_FIELDS,
                          MOST_LINE_ENDS, MOST_ROWS, MOST_STEPS, NAME, NO_PATH_STATUS, OTHER_METHOD_STATUS, PHRASES, THE_DESK, Refusal, status_of)
+from page_parts import policy
 
 MOST_RECORDS = {"stack": MOST_ROWS, "procedure": MOST_STEPS}
 
@@ -285,7 +286,7 @@ def response(status: int, lines: Sequence[str], refusal: int) -> bytes:
 
 
 PAGE_LINES = ["Content-Type: text/html; charset=utf-8", "Cache-Control: no-store",
-              "Content-Security-Policy: default-src 'none'; style-src 'unsafe-inline'; frame-ancestors 'none'", "X-Content-Type-Options: nosniff"]
+              f"Content-Security-Policy: {policy()}; frame-ancestors 'none'", "X-Content-Type-Options: nosniff"]
 
 
 def page_response(page: bytes) -> bytes:

@@ -1,13 +1,14 @@
 """The page of the wall screen in a browser: headless Chromium, which is led over the protocol of its driver.
 
-    tools/run.py --only browser                        the pages of plain desks: quiet, busy, in doubt, empty, closed, and full
+    tools/run.py --only browser                        the pages of plain desks: quiet, busy, in doubt, in trouble, with long stacks, empty, closed, and full
     cd tools; python3 -m pages.browser PAGE [WORDS]    one page, a file of HTML or a URL
 
 of which WORDS may be `--places LINE`, the line that answers `places`; `--open N`, how many requests are open; `--text TEXT`, which has to be shown as it is
 typed; `--high`, where the page may be higher than the screen; `--picture FILE`, a picture of it; and `--paper FILE`, how it is printed.
 
-Looked for are the counts, each open request at its place, texts of persons as they were typed, what stands out over 1,920 by 1,080 points, that nothing is
-loaded besides and no script is there, how long a page takes to open, and the headings of what is printed. Where Chromium, its driver or pdftotext is not
+Looked for are the counts, each open request at its place, texts of persons as they were typed, what stands out over 1,920 by 1,080 points, that all that is
+in doubt, failed or waits for approval stands above the fold, that nothing is loaded besides and no script is there but the page's own, that the page comes
+back by itself, how long it takes to open, and the headings of what is printed. Where Chromium, its driver or pdftotext is not
 installed it says that this was not tried.
 """
 import argparse
@@ -19,25 +20,32 @@ import shutil
 import subprocess
 import sys
 import tempfile
+import threading
 import time
 import unittest
 import urllib.error
 import urllib.request
+from http.server import BaseHTTPRequestHandler, ThreadingHTTPServer
 from typing import Any, NamedTuple, Optional, Sequence
 
 from model.desk import Desk
-from model.facts import FINAL, PLACE_WORDS
-from model.wall import MOST_OPEN, board_page
+from model.facts import PLACE_WORDS
+from model.wall import MOST_OPEN, board_page, open_lines, open_requests
+from page_parts import policy
 from tests.http_peer import HERE, free_port
-from tests.wall_desks import LONG, STEP_TEXT, busy, empty, in_doubt, longest, quiet
+from tests.wall_desks import LONG, STEP_TEXT, busy, crowded, empty, in_doubt, longest, quiet, stacked, trouble
 
 WIDE, HIGH = 1920, 1080  # of the screen, in points
 OPENS = 1.0  # seconds in which a page has to be there
 TRIES = 5  # of which the best counts
 PATIENCE = 600  # seconds for an answer of the driver
+AGAIN = 60  # seconds in which a page that asks every 5 has to say something
 OPTIONS = ("--headless", "--disable-gpu", "--hide-scrollbars", "--no-first-run", "--disable-background-networking")
-SECTIONS = ("How many stand where", "What waits for a person", "Link", "On-board schedule", "Each open request's way", "Last moves", "Handed over by",
+SECTIONS = ("How many stand where", "What is open, most urgent first", "Link", "On-board schedule", "Each open request's way", "Last moves", "Handed over by",
             "Taken over by")
+
+REFRESH = '<meta http-equiv="refresh" content="5">'
+FIRST = ("InDoubt", "FailedSince", "Approval")  # these have to be seen at once
 
 # What a script in the browser tells of the page.
 LOOK = """
@@ -47,14 +55,16 @@ const spills = (it) => it.scrollWidth > it.clientWidth + 1 || [...it.querySelect
 return {
     tiles: all('.tile').map(it => [Number(it.querySelector('b').textContent), it.querySelector('small').textContent]),
     ways: all('.ways tbody tr').map(it => ({cells: cells(it), is_shown: it.getBoundingClientRect().height > 0})),
-    waits: all('.waits tbody tr').map(cells),
+    urgent: all('.urgent tbody tr').map(it => ({cells: cells(it), kind: it.className, bottom: it.getBoundingClientRect().bottom})),
     more: all('.more').map(it => it.textContent),
     premise: document.querySelector('.premise').textContent,
-    strange: all('script, img, iframe, object, embed, form, input, a').length,
+    scripts: all('script').length,
+    strange: all('img, iframe, object, embed, form, input, a').length,
     wide: document.documentElement.scrollWidth, high: document.documentElement.scrollHeight,
     spilled: all('header, section, .tile').filter(spills).map(it => it.className),
-    loaded: performance.getEntriesByType('resource').map(it => it.name),
-    refresh: all('meta[http-equiv=refresh]').map(it => it.content),
+    loaded: performance.getEntriesByType('resource').map(it => it.name).filter(it => it !== location.href),
+    refresh: all('noscript').map(it => it.textContent),
+    age: all('#age').map(it => it.textContent),
 }
 """
 
@@ -199,20 +209,25 @@ def of_shape(found: dict[str, Any], is_high: bool) -> list[str]:
     faults = [f"it is {found['wide']} points wide"] if found["wide"] > WIDE else []
     faults += [f"it is {found['high']} points high"] if found["high"] > HIGH and not is_high else []
     faults += [f"{it} spills over" for it in found["spilled"]] + [f"it loads {it}" for it in found["loaded"]]
+    below = [row["cells"][0] for row in found["urgent"] if row["kind"] in FIRST and row["bottom"] > HIGH]
+    faults += [] if is_high else [f"{it} is below the fold" for it in below]
     return faults + ([f"{found['strange']} elements that should not be there"] if found["strange"] else [])
 
 
 def faults_of(browser: Browser, wanted: Wanted) -> list[str]:
     """What is wrong with the page that is open."""
     found = browser.says(LOOK)
-    cells = [cell for row in found["waits"] for cell in row]
+    cells = [cell for row in found["urgent"] for cell in row["cells"]]
     faults = of_counts(found, wanted.counts) if wanted.counts else []
     faults += of_ways(found, wanted) + of_shape(found, wanted.is_high)
     faults += [f"the text {it} is not shown" for it in wanted.texts if not any(cell.endswith(it) for cell in cells)]
     if wanted.closed is not None:
         premise, refresh = found["premise"], found["refresh"]
-        is_so = (premise == "closed" and refresh == []) if wanted.closed else (premise in ("premise kept", "premise broken") and refresh == ["5"])
+        wanted_scripts = 0 if wanted.closed else 1
+        is_so = (premise == "closed" and refresh == []) if wanted.closed else (premise in ("premise kept", "premise broken") and refresh == [REFRESH])
         faults += [] if is_so else [f"the link is {premise}, and it is asked for again: {refresh}"]
+        faults += [] if found["scripts"] == wanted_scripts else [f"{found['scripts']} scripts"]
+        faults += [] if wanted.closed or len(found["age"]) == 1 else ["it does not tell how old the last move is"]
     return faults + browser.complaints()
 
 
@@ -228,11 +243,50 @@ def wanted_of(desk: Desk, closed: bool, texts: Sequence[str] = (), is_high: bool
     """What the page of a plain desk has to show."""
     counts = dict(zip(PLACE_WORDS, map(int, desk.places().split(": ")[1].split(" "))))
     book = desk.book
-    ways = [(str(it.number), str(it.identity), book.place(it.number).word) for it in book.requests if book.place(it.number) not in FINAL]
+    numbers = open_requests(desk, open_lines(desk, closed))
+    ways = [(str(it.number), str(it.identity), book.place(it.number).word) for it in (book.requests[number - 1] for number in numbers)]
     return Wanted(counts, ways, len(ways), texts, closed, is_high)
 
 
 # ---- tests
+
+class Shown(ThreadingHTTPServer):
+    """A server of one page, as the desk or a proxy answers it."""
+
+    def __init__(self) -> None:
+        """It has no page yet."""
+        super().__init__((HERE, 0), Answers)
+        self.page, self.status = b"", 200
+
+    def url(self) -> str:
+        """Where the page is."""
+        return f"http://{HERE}:{self.server_address[1]}/board"
+
+    def ends(self) -> None:
+        """Ends."""
+        self.shutdown()
+        self.server_close()
+
+
+class Answers(BaseHTTPRequestHandler):
+    """An answer with the page, or with another status; 0 cuts it off."""
+    server: Shown
+
+    def do_GET(self) -> None:
+        """Answers."""
+        if self.server.status == 0:
+            return
+        body = self.server.page if self.server.status == 200 else b"<html><title>502</title></html>"
+        self.send_response(self.server.status)
+        self.send_header("Content-Type", "text/html; charset=utf-8")
+        self.send_header("Content-Security-Policy", f"{policy()}; frame-ancestors 'none'")
+        self.send_header("Content-Length", str(len(body)))
+        self.end_headers()
+        self.wfile.write(body)
+
+    def log_message(self, format: str, *args: object) -> None:
+        """Says nothing."""
+
 
 class Browsed(unittest.TestCase):
     """Pages of plain desks."""
@@ -243,19 +297,42 @@ class Browsed(unittest.TestCase):
             self.skipTest(why)
         self.folder = self.enterContext(tempfile.TemporaryDirectory(prefix="pages-"))
         self.browser = self.enterContext(Browser())
+        self.shown = Shown()
+        threading.Thread(target=self.shown.serve_forever, daemon=True).start()
+        self.addCleanup(self.shown.ends)
 
-    def page(self, name: str, desk: Desk, closed: bool = False) -> str:
-        """The page of a desk as a file; its URL."""
-        path = f"{self.folder}/{name.replace(' ', '-')}.html"
-        with open(path, "wb") as file:
-            file.write(board_page(desk, closed))
-        return f"file://{path}"
+    def page(self, desk: Desk, closed: bool = False) -> str:
+        """Serves the page of a desk; its URL."""
+        self.shown.page, self.shown.status = board_page(desk, closed), 200
+        return self.shown.url()
 
     def look(self, name: str, desk: Desk, closed: bool = False, texts: Sequence[str] = (), is_high: bool = False) -> None:
         """Opens the page of a desk, and looks for all that it has to show."""
         with self.subTest(name):
-            self.browser.opens(self.page(name, desk, closed))
+            self.browser.opens(self.page(desk, closed))
             self.assertEqual([], faults_of(self.browser, wanted_of(desk, closed, texts, is_high)))
+
+    def says_again(self, what: str) -> None:
+        """Waits until the page that is open says this."""
+        end = time.monotonic() + AGAIN
+        while what not in self.browser.says("return document.body.textContent"):
+            self.assertLess(time.monotonic(), end, what)
+            time.sleep(0.2)
+
+    def test_again(self) -> None:
+        """The page shows the next board by itself. While none comes it keeps the last one and says since when, and it goes on once one comes."""
+        self.browser.opens(self.page(quiet()))
+        self.browser.says("window.stays = true")
+        self.page(busy())
+        self.says_again("execution 1 of warm")
+        self.shown.status = 502
+        self.says_again("the answer was 502. This is the last one.")
+        self.shown.status = 0
+        self.says_again("no answer. This is the last one.")
+        self.says_again("execution 1 of warm")
+        self.page(quiet())
+        self.says_again("request 7 and 1 more of payload")
+        self.assertEqual([True, True], self.browser.says("return [window.stays, document.getElementById('silent').hidden]"))
 
     def test_screen(self) -> None:
         """Desks of up to 40 open requests fit on the screen, and show what they hold."""
@@ -265,14 +342,22 @@ class Browsed(unittest.TestCase):
         self.look("long names", busy(LONG), texts=[STEP_TEXT])
         self.look("in doubt", in_doubt())
         self.look("twenty in doubt", in_doubt(20))
+        self.look("trouble", trouble(), texts=[STEP_TEXT])
         self.look("closed", busy(), closed=True, texts=[STEP_TEXT])
+
+    def test_long(self) -> None:
+        """Of long stacks and many requests all that is in doubt or waits for approval stands above the fold."""
+        for name, desk in (("60 rows", stacked(60)), ("200 rows", stacked(200)), ("350 open", crowded())):
+            self.look(name, desk, is_high=True)
+            found = self.browser.says(LOOK)
+            self.assertEqual([], [row for row in found["urgent"] if row["kind"] in (*FIRST, "Flying") and row["bottom"] > HIGH], name)
 
     def test_full(self) -> None:
         """The page of a full desk opens within a second, and counts what it leaves out. Its longest numbers and names stand out nowhere."""
         desk = longest()
-        url = self.page("full", desk)
+        url = self.page(desk)
         took = min(self.browser.opens(url) for _ in range(TRIES))
-        print(f"browser: a page of {os.path.getsize(url.removeprefix('file://'))} bytes in {took:.2f} seconds")
+        print(f"browser: a page of {len(self.shown.page)} bytes in {took:.2f} seconds")
         self.assertLess(took, OPENS)
         self.assertEqual([], faults_of(self.browser, wanted_of(desk, False, is_high=True)))
         self.look("full, closed", desk, closed=True, is_high=True)
@@ -283,7 +368,7 @@ class Browsed(unittest.TestCase):
             self.skipTest("pdftotext is not installed (Debian: poppler-utils)")
         for name, desk, closed in (("quiet", quiet(), False), ("busy", busy(), False), ("closed", in_doubt(), True)):
             with self.subTest(name):
-                self.browser.opens(self.page(name, desk, closed))
+                self.browser.opens(self.page(desk, closed))
                 self.browser.paper(f"{self.folder}/page.pdf")
                 self.assertEqual([], paper_faults(f"{self.folder}/page.pdf", len(wanted_of(desk, closed).ways or [])))
 

@@ -15,13 +15,14 @@ from model.desk import Desk
 from model.facts import FINAL, PLACE_WORDS, place_word
 from model.report import time_of
 from model.rows import empty_tables
+from model.urgent import lines_of
 from model.wall import board_page
-from page_parts import MADE, PARTS, made
-from tests.wall_desks import BEGIN, LONG, STEP_TEXT, Scene, busy, empty, full, in_doubt, quiet
+from page_parts import MADE, PARTS, made, policy
+from tests.wall_desks import BEGIN, LONG, STEP_TEXT, Scene, busy, crowded, empty, full, in_doubt, quiet, stacked, trouble
 
 SEED, DAYS = 20261126, 12
 VOID = frozenset(("meta", "link"))  # elements that have no end
-SECTIONS = ["tiles", "waits", "link", "schedule", "ways", "moves", "sign"]
+SECTIONS = ["tiles", "urgent", "link", "schedule", "ways", "moves", "sign"]
 # Acts with what waits behind them, written by hand.
 WAITING = """\
 ann enter 5 a--c no 8 1 - - ok
@@ -80,8 +81,8 @@ bob close 2
 = execution 1 warm next 2 second yes
 """.splitlines()
 # What the page says of itself.
-HEADINGS = ["How many stand where", "What waits for a person", "Link", "On-board schedule", "Each open request's way", "Last moves"]
-WAIT_HEADS = ["What", "Waits for", "By whom"]
+HEADINGS = ["How many stand where", "What is open, most urgent first", "Link", "On-board schedule", "Each open request's way", "Last moves"]
+OPEN_HEADS = ["What", "Name", "Service", "Waits for", "By whom", "For"]
 WAY_HEADS = ["No.", "Name", "Service", "", "Author", "Stack", "", "Stands at"]
 MOVE_HEADS = ["Move", "UTC", "Person", "Request", "From", "To", "Why"]
 LEGEND = [("Entered", "Entered"), ("Approved", "Approved"), ("Queued", "Queued"), ("Sent", "Sent"), ("Confirmed", "Confirmed"), ("Riding", "Riding"),
@@ -90,6 +91,32 @@ LEGEND = [("Entered", "Entered"), ("Approved", "Approved"), ("Queued", "Queued")
 SIGNATURES = ["Handed over by", "Taken over by"]
 STEPS = ["procedure warm author ann steps 3", "step 1 second no request - check the battery", f"step 2 second yes request - {STEP_TEXT}",
          "step 3 second no request - look again"]
+# A line of `urgent`, and what the page says of its kind.
+LINE = re.compile("(?P<what>request|execution) (?P<number>[0-9]+)(?: (?P<name>[0-9]+/[0-9]+) tc (?P<service>[0-9]+ [0-9]+))? (?P<kind>[a-z ]+?)(?: (?P<insert>[0-9]+))?"
+                  " since [0-9]+ waited (?P<waited>[0-9]+) same (?P<same>[0-9]+)")
+SAID = {"in doubt": "IN DOUBT: on board or not?", "failed": "FAILED", "waits for approval": "approval ", "step due": "step ", "flying": "on its way, or on board",
+        "report lost": "REPORT LOST, or late", "free": "release", "activity of": "activity of {}: do not release", "locked for ever": "LOCKED FOR EVER by line ",
+        "locked": "locked by line "}
+HEADER = f"{os.path.dirname(MADE)}/../../tc_api/src/responses.rt"
+CLOSED = "no failed request is listed; each scheduled one counts as on board"
+STRICT = "default-src 'none'; style-src 'unsafe-inline'; img-src data:"
+SCRIPT = "\n" + wall.fixed("script.js")
+TROUBLE = [
+    ["request 17 \u25b2 critical", "IN DOUBT: on board or not?", "anyone"],
+    ["request 18", "IN DOUBT: on board or not?", "anyone"],
+    ["request 3 \u25b2 critical", "FAILED", "look why"],
+    ["request 4 of broken", "FAILED", "look why"],
+    ["request 7 and 2 more of aocs \u25b2 critical", "approval 1 of 2", "not ann, bob"],
+    ["request 20", "approval 0 of 1", "not ann"],
+    ["execution 1 of warm", f"step 2: {STEP_TEXT}", "two persons"],
+    ["request 19", "on its way, or on board", "nobody"],
+    ["request 16", "REPORT LOST, or late", "look why"],
+    ["request 10 of heater", "release", "anyone"],
+    ["request 15", "release", "anyone"],
+    ["request 13 and 1 more", "activity of 15: do not release", "nobody"],
+    ["request 5 and 1 more of broken", "LOCKED FOR EVER by line 1 of broken", "withdraw it"],
+    ["request 11 and 1 more of heater", "locked by line 1 of heater", "nobody yet"],
+]
 BAD = """\
 waiting 1
 waiting-
@@ -177,9 +204,10 @@ class Page(HTMLParser):
             self.words.setdefault(kind or tag, []).append(data.strip())
 
 
-def open_of(desk: Desk) -> list[int]:
-    """The requests at a place that is not final."""
-    return [it.number for it in desk.book.requests if desk.book.place(it.number) not in FINAL]
+def open_of(desk: Desk, closed: bool = False) -> list[int]:
+    """The requests at a place that is not final, most urgent first."""
+    lines = lines_of(desk.book, len(desk.book.history) if closed else desk.stood, wall.scheduled(desk, closed))
+    return [it.number for it in lines if it.on_board and desk.book.place(it.number) not in FINAL]
 
 
 def ways_of(desk: Desk) -> list[list[str]]:
@@ -266,11 +294,13 @@ class Wall(unittest.TestCase):
 
     def desks(self) -> list[tuple[str, Desk]]:
         """Desks that are written by hand, and random ones."""
-        made = [("empty", empty()), ("quiet", quiet()), ("busy", busy()), ("long names", busy(LONG)), ("in doubt", in_doubt())]
+        made = [("empty", empty()), ("quiet", quiet()), ("busy", busy()), ("long names", busy(LONG)), ("in doubt", in_doubt()), ("trouble", trouble()),
+                ("a stack", stacked(60)), ("crowded", crowded())]
         return made + [(f"random {seed}", random_desk(seed)) for seed in range(SEED, SEED + DAYS)]
 
     def test_shape(self) -> None:
-        """Its elements fit into each other, its sections come in order, no identity comes twice, and nothing is loaded or run."""
+        """Its elements fit into each other, its sections come in order, and no identity comes twice. Nothing is loaded, and nothing runs but the one script
+        that its policy allows; on the page of a closed file nothing does."""
         for name, desk in self.desks():
             for closed in (False, True):
                 with self.subTest(f"{name}, {closed}"):
@@ -278,7 +308,10 @@ class Wall(unittest.TestCase):
                     page = Page(data)
                     self.assertEqual(SECTIONS, page.sections)
                     self.assertEqual(len(page.ids), len(set(page.ids)))
-                    self.assertFalse(page.tags.keys() & {"script", "img", "iframe", "object", "embed", "form", "a"})
+                    self.assertFalse(page.tags.keys() & {"img", "iframe", "object", "embed", "form", "a"})
+                    self.assertEqual(0 if closed else 1, page.tags["script"])
+                    self.assertEqual([] if closed else [SCRIPT], re.findall("<script>(.*?)</script>", data.decode(), re.DOTALL))
+                    self.assertEqual([STRICT if closed else policy()], re.findall('Content-Security-Policy" content="(.*?)"', data.decode()))
                     self.assertEqual([], re.findall(rb'(?:src|href)="(?!data:,"|#)|url\((?!#)|@import|https?:', data))
                     self.assertNotIn(b"\r", data)
 
@@ -289,9 +322,9 @@ class Wall(unittest.TestCase):
             with self.subTest(name):
                 page = Page(board_page(desk, False))
                 rows = page.rows.get("ways", [])
-                self.assertEqual(ways_of(desk), [[*it[:3], *it[4:6], it[-1].split(" ")[-1]] for it in rows])
-                self.assertEqual([it[-1] for it in ways_of(desk)], page.classes.get("ways", []))
-                critical = [desk.book.requests[it - 1].form.is_critical for it in open_of(desk)]
+                self.assertEqual(ways_of(desk)[:200], [[*it[:3], *it[4:6], it[-1].split(" ")[-1]] for it in rows])
+                self.assertEqual([it[-1] for it in ways_of(desk)[:200]], page.classes.get("ways", []))
+                critical = [desk.book.requests[it - 1].form.is_critical for it in open_of(desk)[:200]]
                 self.assertEqual(critical, ["critical" in it[3] for it in rows])
                 places.update(page.classes.get("ways", []))
         self.assertEqual({place_word(it) for it in range(1, 16) if it not in FINAL}, places.keys())
@@ -307,25 +340,38 @@ class Wall(unittest.TestCase):
                 self.assertEqual([sum(numbers_in(places)) for _, places in page.tiles], [int(count) for count, _ in page.tiles])
                 self.assertIn(f"<p><b>{entered}</b> entered</p>", board_page(desk, False).decode())
                 last = desk.book.history[-1:]
-                head = "".join(f"<p>last move <b>{it.seq}</b> at <b>{time_of(it.moment)}</b> UTC</p>" for it in last) or "<p>nothing moved yet</p>"
+                head = "".join(f'<p id="moved" data-at="{it.moment}">last move <b>{it.seq}</b> at <b>{time_of(it.moment)}</b> UTC</p>' for it in last)
+                head = head or "<p>nothing moved yet</p>"
                 self.assertIn(head, board_page(desk, False).decode())
 
-    def test_waits(self) -> None:
-        """There is a row for each line of what waits, with its number or its name, in order."""
+    def test_urgent(self) -> None:
+        """There is a row for each line of `urgent`, in order, with its number, its name on board, its service, what it says, and how many are folded into it."""
+        kinds: Counter[str] = Counter()
         for name, desk in self.desks():
             with self.subTest(name):
-                rows = Page(board_page(desk, False)).rows.get("waits", [])
-                lines = [it.split(" ") for it in desk.line("1 ann waiting")[1:]]
-                self.assertEqual([it[:2] for it in lines], [re.sub("^[^a-z]+", "", row[0]).split(" ")[:2] for row in rows])
-                for words, row in zip(lines, rows):
-                    self.assertEqual("critical yes" in " ".join(words), "critical" in row[0])
-                    self.assertEqual("locked" in words, "locked" in row[1])
-                    self.assertEqual("Doubtful" in words, "IN DOUBT" in row[1])
+                page = Page(board_page(desk, False))
+                rows = page.rows.get("urgent", [])
+                lines = [LINE.fullmatch(it) for begin in range(1, 200, 50) for it in desk.line(f"1 ann urgent {begin}")[1:]]
+                self.assertEqual(len(lines), len(rows))
+                for it, row, kind in zip(lines, rows, page.classes["urgent"] if rows else []):
+                    assert it
+                    same = f" and {it['same']} more" if it["same"] != "0" else ""
+                    self.assertRegex(row[0], f"{it['what']} {it['number']}{same}( |$)")
+                    self.assertEqual((it["name"] or "", (it["service"] or "").replace(" ", "/")), (row[1], row[2]))
+                    self.assertIn(SAID[it["kind"]].format(it["insert"]), row[3])
+                    self.assertEqual(wall.age(int(it["waited"])) if it["name"] else "", row[5])
+                kinds.update(page.classes.get("urgent", []))
+        self.assertEqual({it.name for it in wall.KINDS.values()}, kinds.keys())
+
+    def test_who(self) -> None:
+        """Who may act on a line stands beside it: written by hand, of a desk in trouble."""
+        rows = Page(board_page(trouble(), False)).rows["urgent"]
+        self.assertEqual(TROUBLE, [[re.sub("^[^a-z]+", "", it[0]), it[3], it[4]] for it in rows])
 
     def test_texts(self) -> None:
         """A text is shown as it was typed: no element is made of it."""
         page = Page(board_page(busy(), False))
-        self.assertEqual(f"step 2: {STEP_TEXT}", page.rows["waits"][-1][1])
+        self.assertIn(f"step 2: {STEP_TEXT}", [it[3] for it in page.rows["urgent"]])
         self.assertEqual("&amp;lt;&lt;&gt;&quot;&#39;&amp;#39;", wall.escaped("&lt;<>\"'&#39;"))
         self.assertIn(b"step 2: &lt;img src=x onerror=alert(1)&gt;&amp;&quot;</td>", board_page(busy(), False))
 
@@ -338,7 +384,7 @@ class Wall(unittest.TestCase):
                           for it in desk.book.history[::-1][:50]]
                 self.assertEqual(wanted, [" ".join(row[:-1]) for row in page.rows.get("moves", [])])
                 left = len(desk.book.history) - 50
-                self.assertEqual([f"and {left} more"] if left > 0 else [], page.words.get("more", []))
+                self.assertEqual([f"and {left} more"] if left > 0 else [], page.words.get("more", [])[-1:])
 
     def test_link(self) -> None:
         """Premise, state and flags stand there in words, and the schedule as it is mirrored."""
@@ -354,17 +400,25 @@ class Wall(unittest.TestCase):
                 self.assertEqual([(name, time_of(int(time))) for name, time in wanted], re.findall("<li><b>(.*?)</b> (.*?)</li>", text))
 
     def test_closed(self) -> None:
-        """The page of a closed file says so, is not asked for again, and tells of no link and no schedule; all else is as it was."""
+        """The page of a closed file says so, is not asked for again, and tells of no link and no schedule. No request failed after an opening, and each at
+        Scheduled is on board; all else is as it was."""
         for name, desk in self.desks():
             with self.subTest(name):
                 opened, closed = (board_page(desk, it).decode() for it in (False, True))
-                self.assertIn('<meta http-equiv="refresh" content="5">', opened)
+                self.assertIn('<noscript><meta http-equiv="refresh" content="5"></noscript>', opened)
                 self.assertNotIn("refresh", closed)
                 self.assertNotIn("premise k", closed)
                 self.assertNotIn("premise b", closed)
                 self.assertEqual(3, len(re.findall(">closed(?: file)?<", closed)))
                 self.assertEqual(0, len(re.findall(">closed(?: file)?<", opened)))
-                self.assertEqual(*(Page(it.encode()).rows for it in (opened, closed)))
+                first, second = (Page(it.encode()) for it in (opened, closed))
+                self.assertEqual(first.rows.get("moves"), second.rows.get("moves"))
+                self.assertEqual(sorted(it[0] for it in first.rows.get("ways", [])), sorted(it[0] for it in second.rows.get("ways", [])))
+                self.assertNotIn("FailedSince", second.classes.get("urgent", []))
+                scheduled = {str(it) for it in wall.scheduled(desk, True)}
+                lost = {number for row, kind in zip(second.rows.get("urgent", []), second.classes.get("urgent", [])) if kind == "LostReport"
+                        for number in re.findall("request ([0-9]+)", row[0])}
+                self.assertFalse(lost & scheduled)
 
     def test_opened(self) -> None:
         """Below its heading the page says when the desk was opened, and how many moves stood once that had made its own; later moves change nothing of it."""
@@ -379,7 +433,7 @@ class Wall(unittest.TestCase):
         desk.line("86400 ann enter 6 a--c no 8 1 - - ok")
         self.assertIn(line.format("1970-01-01 23:59:59", desk.stood).replace("<b>1</b> entered", "<b>2</b> entered"), board_page(desk, False).decode())
         closed = board_page(desk, True).decode()
-        self.assertIn('<header>\n<h1>Telecommand desk</h1>\n<p class="file">closed file</p>\n<p><b>2</b> entered</p>\n', closed)
+        self.assertIn(f'<header>\n<h1>Telecommand desk</h1>\n<p class="file">closed file</p>\n<p>{CLOSED}</p>\n<p><b>2</b> entered</p>\n', closed)
         self.assertNotIn("opened at", closed)
 
 
@@ -389,11 +443,11 @@ class Bounds(unittest.TestCase):
     """What is cut is counted, and the axis is as its rules say."""
 
     def test_cuts(self) -> None:
-        """A full desk shows 200 of 240 requests, 200 of 240 lines and 50 moves, and says how many more there are."""
+        """A full desk shows 200 of 240 requests, 150 of 240 lines and 50 moves, and says how many more there are."""
         desk = full()
         page = Page(board_page(desk, False))
-        self.assertEqual([200, 200, 50], [len(page.rows[it]) for it in ("waits", "ways", "moves")])
-        self.assertEqual(["and 40 more", "and 40 more", f"and {len(desk.book.history) - 50} more"], page.words["more"])
+        self.assertEqual([150, 200, 50], [len(page.rows[it]) for it in ("urgent", "ways", "moves")])
+        self.assertEqual(["lines left out: 90 wait for approval", "and 40 more", f"and {len(desk.book.history) - 50} more"], page.words["more"])
         self.assertEqual([str(it) for it in open_of(desk)[:200]], [it[0] for it in page.rows["ways"]])
 
     def test_activities(self) -> None:
@@ -498,12 +552,14 @@ class Parts(unittest.TestCase):
                 parts = [it for it in text.split("<section ")[1:] if not it.startswith('class="sign"')]
                 self.assertEqual(HEADINGS, [re.findall("<h2>(.*?)</h2>", it)[0] for it in parts])
                 heads = [re.findall("<th(?: [^>]*)?>([^<]*)", it) for it in parts]
-                self.assertEqual([WAIT_HEADS, WAY_HEADS, MOVE_HEADS], [it for it in heads if it])
+                self.assertEqual([OPEN_HEADS, WAY_HEADS, MOVE_HEADS], [it for it in heads if it])
                 legend = text[text.index('<ul class="legend">'):text.index("</ul>", text.index('<ul class="legend">'))]
                 self.assertEqual(LEGEND, re.findall(r'<li>(?:<svg.*?<rect class="(\w+)"[^>]*/></svg>)?([^<]*)</li>', legend))
                 self.assertEqual(SIGNATURES, re.findall("<p>(.*?)</p>", text[text.index('class="sign"'):]))
 
     def test_constants(self) -> None:
-        """The crate has them as they are: after an edit tools/page_parts.py writes its constants."""
+        """The crate has them as they are: after an edit tools/page_parts.py writes its constants. The header of the response has the same policy."""
         with open(MADE, encoding="ascii") as file:
             self.assertEqual(made(), file.read())
+        with open(HEADER, encoding="utf-8") as file:
+            self.assertEqual([f"{policy()}; frame-ancestors 'none'"], re.findall(r"Content-Security-Policy: (.*?)\\r", file.read()))

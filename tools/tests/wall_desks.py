@@ -1,4 +1,4 @@
-"""Plain desks whose pages are looked at: quiet, busy, empty, in doubt, and full. Their scripts are written by hand, and no line of them is refused."""
+"""Plain desks whose pages are looked at: quiet, busy, empty, in doubt, in trouble, with long stacks, and full. Their scripts are written by hand, and no line of them is refused."""
 from typing import Optional, Sequence
 
 from model.desk import Desk
@@ -167,6 +167,68 @@ def in_doubt(count: int = 40) -> Noted:
         if at % 10 == 9:
             it.says("terminate", "initiate none", by=it.eve)
     it.says("terminate", by=it.eve)
+    return it.desk
+
+
+def rows(count: int, locked: bool = False) -> bytes:
+    """A stack of so many rows, each of which waits for the one before it if they are locked."""
+    return (HEADER + "".join(f"{at},{at % 7},8,{at % 200 + 1},,,a--c,no,{at - 1 if locked and at > 1 else ''},ok\n" for at in range(1, count + 1))).encode("ascii")
+
+
+def stacked(count: int) -> Noted:
+    """A stack of so many rows that may be released, and then one critical request that is in doubt, and one that waits for approval."""
+    it = Scene()
+    it.desk.files["fill.csv"] = rows(count)
+    it.says("initiate none", "stack fill fill.csv")
+    it.says("approvestack fill", by=it.bob, after=200)
+    number, = it.enters("100 a--c yes 8 99 - - ok")
+    it.says(f"release {number}", "terminate", "initiate none", after=100)
+    it.enters("101 a--c no 8 98 - - ok", approved=False)
+    return it.desk
+
+
+def crowded() -> Noted:
+    """A desk with 350 open requests: two stacks, one of them locked, requests that came alone, and 10 on their way, which were entered last."""
+    it = Scene()
+    it.desk.files.update({"fill.csv": rows(150), "lock.csv": rows(150, locked=True)})
+    it.says("initiate none", "set k 10", "stack fill fill.csv", "stack lock lock.csv")
+    it.says("approvestack fill", "approvestack lock", by=it.bob)
+    it.enters(*(f"{300 + at} a--c no 8 5 - - ok" for at in range(40)))
+    numbers = it.enters(*(f"{700 + at} a--c no 8 {at + 1} - - ok" for at in range(10)))
+    it.says(*(f"release {number}" for number in numbers), *["up"] * 4, "clcw")
+    it.all_down()
+    return it.desk
+
+
+def trouble() -> Noted:
+    """A desk in trouble: requests in doubt, some that failed after the opening, one whose report was lost, lines that never open, and activities of an insert.
+    It is said to have been opened after its first failure."""
+    it = Scene()
+    it.says("initiate none")
+    for number in it.enters("5 a--c no 17 1 - - ok", "5 a--c no 8 1 - - refuse/33"):
+        it.flies(number, "work", "clcw")
+        it.all_down()
+    it.desk.since, it.desk.stood = it.moment, len(it.desk.book.history)
+    it.desk.files["broken.csv"] = (HEADER + "1,9,8,1,,,a--c,no,,refuse/33\n2,9,8,2,,,a--c,no,1,ok\n3,9,8,3,,,a--c,no,2,ok\n").encode("ascii")
+    failing, = it.enters("9 a--c yes 8 2 - - refuse/33")
+    it.says("stack broken broken.csv")
+    it.says("approvestack broken", by=it.bob)
+    for number in (failing, failing + 1):
+        it.flies(number, "work", "clcw")
+        it.all_down()
+    it.says("stack aocs aocs.csv", "stack heater heater.csv")
+    it.says("approvestack aocs", "approvestack heater", by=it.bob)
+    rides = it.enters("5 a--c no 8 51 - - ok", "5 a--c no 8 52 - - ok")
+    it.enters(f"41 ---c no 11 4 {';'.join(map(str, rides))} {BEGIN + 20000};{BEGIN + 20060} ok")
+    it.says("procedure warm warm.csv", "begin warm", "step 1 1 done -")
+    lost, *doubtful = it.enters("7 a--c no 8 5 - - ok", "8 a--c yes 8 10 - - ok", "8 a--c no 8 11 - - ok")
+    it.flies(lost, "losedown 0", "clcw")
+    it.all_down()
+    it.says(*(f"release {number}" for number in doubtful), "loseup 0", "loseup 0", "terminate", "initiate none")
+    it.waits(400)
+    flying, = it.enters("3 a--c no 8 9 - - ok")
+    it.says(f"release {flying}")
+    it.enters("3 a--c no 8 8 - - ok", approved=False)
     return it.desk
 
 

@@ -8,6 +8,7 @@ use Rattle.serde_json.specs.Data.{Data, Items, array, member, no_members, number
 use Rattle.serde_json.specs.View.{items_of}
 use Rattle.serde_json.specs.Written.{compact_text}
 pub use Rattle.tc_front.specs.Lines.{length_line, line_end}
+use Rattle.tc_wall.specs.declared.fixed.TheConstants.{POLICY}
 use Rattle.tc_api.specs.declared.endings.Ending.{Ending}
 use Rattle.tc_api.specs.Endings.{refusal_number, status_number, status_of}
 
@@ -53,13 +54,14 @@ head_text code phrase size =
     status_line code phrase ++ (line_end ++ codes "Content-Type: application/json" ++ line_end)
     ++ length_line size ++ (line_end ++ codes "Connection: close" ++ line_end ++ line_end)
 
--- the header lines of a page: it is no copy of an earlier one, its styles are its own and nothing else is loaded or run, no other page frames it, and it is HTML
+-- the header lines of a page: it is no copy of an earlier one, its styles and its one script are its own and nothing else is loaded or run, it asks its own desk
+-- alone, no other page frames it, and it is HTML
 -- (RFC 9111, section 5.2; CSP, level 3)
 abbrev pub page_lines : List ℕ
 page_lines =
     codes "Content-Type: text/html; charset=utf-8" ++ line_end
     ++ (codes "Cache-Control: no-store" ++ line_end)
-    ++ (codes "Content-Security-Policy: default-src 'none'; style-src 'unsafe-inline'; frame-ancestors 'none'" ++ line_end)
+    ++ (codes "Content-Security-Policy: " ++ POLICY.now ++ codes "; frame-ancestors 'none'" ++ line_end)
     ++ (codes "X-Content-Type-Options: nosniff" ++ line_end)
 
 -- the head of a response with a page of so many bytes

@@ -17,9 +17,10 @@ use tc_front::length_line;
 /// How many lines of a reply a response shows at most.
 pub const MOST_LINES: usize = 200;
 
-/// The header lines of a page: it is HTML, no copy of an earlier one, its styles are its own, nothing else is loaded or run, and no other page frames it.
+/// The header lines of a page: it is HTML, no copy of an earlier one, its styles and its one script are its own, nothing else is loaded or run, it asks its own desk
+/// alone, and no other page frames it. The policy is that of the page (`tc_wall::POLICY`).
 const PAGE_LINES: &str =
-    "Content-Type: text/html; charset=utf-8\r\nCache-Control: no-store\r\nContent-Security-Policy: default-src 'none'; style-src 'unsafe-inline'; frame-ancestors 'none'\r\nX-Content-Type-Options: nosniff\r\n";
+    "Content-Type: text/html; charset=utf-8\r\nCache-Control: no-store\r\nContent-Security-Policy: default-src 'none'; style-src 'unsafe-inline'; img-src data:; script-src 'sha256-XRfavC3Kd4vrs8ZeNuy/OQZ26ZZC8JYEeCosauWwpwU='; connect-src 'self'; frame-ancestors 'none'\r\nX-Content-Type-Options: nosniff\r\n";
 
 /// What stands before, between and behind the LFs of a text.
 fn pieces_of<'a>(alloc: Global, text: &'a str) -> Result<Vec<&'a str>, AllocError>

@@ -1,4 +1,4 @@
-// Asks for the board again every 5 seconds and shows it in place of the last one. While none comes, the last one stays, below a red line that says since when.
+// Asks for the board again every 5 seconds and shows it in place of the last one. If none comes, the last one stays, below a red line that says since when.
 (() => {
   const EVERY = 5, PATIENCE = 10;
   let answered = Date.now(), why = '', asking = false;
@@ -15,12 +15,14 @@
     it.hidden = !text;
   };
 
-  // how old the last move is, and how long there was no board, by the clock of this browser
+  // how old the last move is, and since when there is no new board, by the clock of this browser
   const tell = () => {
     const moved = document.getElementById('moved');
     const age = moved ? Math.floor(Date.now() / 1000) - Number(moved.dataset.at) : 0;
     line('age', !moved ? '' : age < 0 ? 'which is later than the clock here' : `${span(age)} ago`);
-    line('silent', why && `NO BOARD since ${clock(answered)} UTC, ${span(Math.floor((Date.now() - answered) / 1000))}: ${why}. This is the last one.`);
+    const gone = Math.floor((Date.now() - answered) / 1000);
+    const silent = why || gone > EVERY + PATIENCE ? why || 'no answer' : '';
+    line('silent', silent && `NO BOARD since ${clock(answered)} UTC, ${span(gone)}: ${silent}. This is the last one.`);
   };
 
   const show = (text) => {
@@ -46,6 +48,7 @@
   };
 
   document.addEventListener('DOMContentLoaded', tell);
+  document.addEventListener('visibilitychange', ask);
   setInterval(tell, 1000);
   setInterval(ask, EVERY * 1000);
 })();

@@ -2,6 +2,7 @@ pub mod ListLemmas
 pub mod ClockLemmas
 pub mod EscapeLemmas
 pub mod PartLemmas
+pub mod LineLemmas
 pub mod ToldLemmas
 pub mod AxisLemmas
 pub mod RangeLemmas

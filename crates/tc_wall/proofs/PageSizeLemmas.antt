@@ -40,7 +40,7 @@ use Rattle.tc_wall.specs.Parts.{Part, Fixed, shown, shown_all, fixed}
 use Rattle.tc_wall.specs.Bounds.{last_of, left_out_parts, none_parts}
 use Rattle.tc_wall.specs.Heading.{file_parts, last_parts, heading_parts}
 use Rattle.tc_wall.specs.Tiles.{count_at, sum_at, tile_head_parts, count_parts, next_parts, counts_parts, tile_parts, open_tiles_parts, failed_word, final_tiles_parts, tiles_parts}
-use Rattle.tc_wall.specs.Waits.{approval_parts, forever_parts, kind_says, lock_parts, locked_parts, other_parts, says_parts, step_parts, text_of, wanting_parts}
+use Rattle.tc_wall.specs.Waits.{approval_parts, forever_parts, lock_parts, locked_parts, other_parts, says_parts, step_parts, text_of, wanting_parts}
 use Rattle.tc_wall.specs.Urgents.{age_parts, begin_parts, critical_parts, group_of, group_parts, left_first_parts, left_last_parts, left_parts, marked_parts, on_board_parts, same_parts, urgent_parts, urgents_parts, waited_parts}
 use Rattle.tc_wall.specs.LinkParts.{fop_words, farm_words, flag_words, queue_parts, counter_parts, fop_parts, farm_parts, link_parts}
 use Rattle.tc_wall.specs.ScheduleParts.{activity_parts, known_schedule_parts}
@@ -51,7 +51,7 @@ use Rattle.tc_wall.specs.MoveParts.{move_parts, moves_parts}
 use Rattle.tc_wall.specs.Page.{laid_in, size_word, live_script_parts, script_parts, head_parts, live_parts, page, wall_page}
 use Rattle.tc_wall.specs.Ranges.{IsShort, IsMoveInRange, IsWantingInRange, IsWaitingInRange, IsOnBoardInRange, IsLineInRange, IsUrgentInRange, IsOriginInRange, IsWayInRange, AreQueuesInRange, AreCountersInRange, IsFopInRange, IsFarmInRange, IsLinkInRange, IsActivityInRange, IsScheduleInRange, IsLiveInRange, IsOpeningInRange, IsLastInRange, IsWallInRange}
 use Rattle.tc_wall.proofs.ListLemmas.{flat_map-append}
-use Rattle.tc_wall.proofs.SizeLemmas.{size, of_nothing, of_text, of_words, of_u16, of_u32, of_u64, of_place, of_name, chosen_size, entered_size, moved_size, opened_size, tile_begins_size, tile_label_size, count_size, approvals_size, author_size, due_size, insert_size, kind_says_size, known_size, left_some_size, line_size, subject_size, two_size, worded_size, number_size, share_size, flies_size, section_size, premise_size, enabled_size, activity_size, row_begins_size, identity_size, command_size, way_author_size, bar_begins_size, place_size, label_size, tick_size, ticks_begin_size, who_size, what_size}
+use Rattle.tc_wall.proofs.SizeLemmas.{size, of_nothing, of_text, of_words, of_u16, of_u32, of_u64, of_place, of_name, chosen_size, entered_size, moved_size, opened_size, tile_begins_size, tile_label_size, count_size, approvals_size, author_size, due_size, insert_size, known_size, left_some_size, line_size, subject_size, two_size, worded_size, number_size, share_size, flies_size, section_size, premise_size, enabled_size, activity_size, row_begins_size, identity_size, command_size, way_author_size, bar_begins_size, place_size, label_size, tick_size, ticks_begin_size, who_size, what_size}
 use Rattle.tc_wall.proofs.AxisLemmas.{IsOnAxis, axis_small, x_small, lines_small, lines_few, all_reversed}
 
 -- parts behind parts
@@ -211,13 +211,13 @@ unfolding locked_parts
 locked_size waits h = more _ 219 517 (omega arith) (both _ _ 169 50 (both _ _ 50 119 (fixed_size _ 50 (lit≤ tt)) (lock_size waits h)) (fixed_size _ 50 (lit≤ tt)))
 
 says_size : (kind : UrgentKind) (waits : Option Waiting) (text : List ℕ) → insert_in kind < 2 ^ 32 → IfSome waits IsWaitingInRange → length text ≤ 80 → size (says_parts kind waits text) ≤ 517
-says_size InDoubt waits text small h few = fixed_size _ 517 (kind_says_size InDoubt)
-says_size FailedSince waits text small h few = fixed_size _ 517 (kind_says_size FailedSince)
+says_size InDoubt waits text small h few = fixed_size _ 517 (lit≤ tt)
+says_size FailedSince waits text small h few = fixed_size _ 517 (lit≤ tt)
 says_size Approval waits text small h few = approval_size waits h
 says_size StepDue waits text small h few = step_size waits text h few
-says_size Flying waits text small h few = fixed_size _ 517 (kind_says_size Flying)
-says_size LostReport waits text small h few = fixed_size _ 517 (kind_says_size LostReport)
-says_size Free waits text small h few = fixed_size _ 517 (kind_says_size Free)
+says_size Flying waits text small h few = fixed_size _ 517 (lit≤ tt)
+says_size LostReport waits text small h few = fixed_size _ 517 (lit≤ tt)
+says_size Free waits text small h few = fixed_size _ 517 (lit≤ tt)
 says_size (ActivityOf insert) waits text small h few = more _ 53 517 (omega arith) (insert_size insert small)
 says_size LockedForever waits text small h few = forever_size waits h
 says_size Locked waits text small h few = locked_size waits h

@@ -27,7 +27,7 @@ use Rattle.tc_wall.specs.declared.walls.Opening.{Opening}
 use Rattle.tc_wall.specs.Heading.{entered_parts, moved_parts, opened_parts}
 use Rattle.tc_wall.specs.Tiles.{count_at, zero_word, tile_begins, tile_label, count_parts}
 use Rattle.tc_wall.specs.Kinds.{kind_begins, kind_class, kind_letter}
-use Rattle.tc_wall.specs.Waits.{activity_parts as insert_parts, approvals_parts, author_parts, kind_says, line_parts, next_parts as due_parts, whom_word}
+use Rattle.tc_wall.specs.Waits.{activity_parts as insert_parts, approvals_parts, author_parts, line_parts, next_parts as due_parts, whom_word}
 use Rattle.tc_wall.specs.Urgents.{left_parts, on_board_parts, subject_parts, two_parts}
 use Rattle.tc_wall.specs.LinkParts.{premise_word, worded_parts, number_parts, share_parts, flies_parts, section_begins, premise_parts}
 use Rattle.tc_wall.specs.ScheduleParts.{enabled_word, enabled_parts, activity_parts}
@@ -156,19 +156,6 @@ kind_begins_size Free = lit≤ tt
 kind_begins_size (ActivityOf insert) = lit≤ tt
 kind_begins_size LockedForever = lit≤ tt
 kind_begins_size Locked = lit≤ tt
-
-pub kind_says_size : (kind : UrgentKind) → length (kind_says kind) ≤ 517
-unfolding kind_says
-kind_says_size InDoubt = lit≤ tt
-kind_says_size FailedSince = lit≤ tt
-kind_says_size Approval = lit≤ tt
-kind_says_size StepDue = lit≤ tt
-kind_says_size Flying = lit≤ tt
-kind_says_size LostReport = lit≤ tt
-kind_says_size Free = lit≤ tt
-kind_says_size (ActivityOf insert) = lit≤ tt
-kind_says_size LockedForever = lit≤ tt
-kind_says_size Locked = lit≤ tt
 
 small_choice : (b : Bool) (m n : ℕ) → m < 2 ^ 8 → n < 2 ^ 8 → (if b then m else n) < 2 ^ 8
 small_choice true m n first second = first

@@ -30,7 +30,7 @@ use Rattle.tc_wall.specs.Bounds.{last_of, left_out_parts, none_parts}
 use Rattle.tc_wall.specs.declared.walls.Opening.{Opening}
 use Rattle.tc_wall.specs.Heading.{file_parts, opened_parts, entered_parts, moved_parts, last_parts, heading_parts}
 use Rattle.tc_wall.specs.Tiles.{count_at, tile_begins, tile_label, tile_head_parts, count_parts, next_parts, counts_parts, tile_parts, open_tiles_parts, final_tiles_parts, tiles_parts}
-use Rattle.tc_wall.specs.Waits.{activity_parts as insert_parts, approval_parts, approvals_parts, author_parts, forever_parts, kind_says, line_parts, lock_parts, locked_parts, next_parts as due_parts, other_parts, says_parts, step_parts, text_of, wanting_parts}
+use Rattle.tc_wall.specs.Waits.{activity_parts as insert_parts, approval_parts, approvals_parts, author_parts, forever_parts, line_parts, lock_parts, locked_parts, next_parts as due_parts, other_parts, says_parts, step_parts, text_of, wanting_parts}
 use Rattle.tc_wall.specs.Urgents.{age_parts, begin_parts, critical_parts, group_of, group_parts, left_first_parts, left_last_parts, left_parts, marked_parts, on_board_parts, same_parts, subject_parts, two_parts, urgent_parts, urgents_parts, waited_parts}
 use Rattle.tc_wall.specs.LinkParts.{worded_parts, number_parts, share_parts, flies_parts, queue_parts, counter_parts, fop_parts, farm_parts, section_begins, premise_parts, link_parts}
 use Rattle.tc_wall.specs.ScheduleParts.{enabled_parts, activity_parts, known_schedule_parts}
@@ -88,7 +88,7 @@ of_opened opening = record { is = refl }
 of_file : (opening : Option Opening) → Tells (file_parts opening) []
 unfolding file_parts
 of_file (Some opening) = of_opened opening
-of_file None = record { is = refl }
+of_file None = of_fixed _
 
 of_entered : (entered : ℕ) → Tells (entered_parts entered) []
 unfolding entered_parts
@@ -144,9 +144,17 @@ unfolding other_parts
 of_other None = record { is = refl }
 of_other (Some person) = record { is = refl }
 
+of_approvals : (w : Wanting) → Tells (approvals_parts w) []
+unfolding approvals_parts
+of_approvals w = record { is = refl }
+
+of_author : (author : List ℕ) → Tells (author_parts author) []
+unfolding author_parts
+of_author author = record { is = refl }
+
 of_wanting : (w : Wanting) → Tells (wanting_parts w) []
-unfolding wanting_parts approvals_parts author_parts
-of_wanting w = quiet _ _ (quiet _ _ (record { is = refl }) (record { is = refl })) (of_other w.by)
+unfolding wanting_parts
+of_wanting w = quiet _ _ (quiet _ _ (of_approvals w) (of_author w.author)) (of_other w.by)
 
 of_approval : (waits : Option Waiting) → Tells (approval_parts waits) []
 of_approval None = of_fixed _

@@ -28,10 +28,14 @@ unfoldable pub wanting_parts : Wanting → List Part
 wanting_parts w = approvals_parts w ++ author_parts w.author ++ other_parts w.by
 
 -- that of a request, or of its stack
+abbrev pub approval_of : Waiting → List Part
+approval_of (waiting.Request n approval) = wanting_parts approval
+approval_of (waiting.Stack stack approval rows first) = wanting_parts approval
+approval_of other = fixed (codes "approval</td><td>")
+
 abbrev pub approval_parts : Option Waiting → List Part
-approval_parts (Some (waiting.Request n approval)) = wanting_parts approval
-approval_parts (Some (waiting.Stack stack approval rows first)) = wanting_parts approval
-approval_parts other = fixed (codes "approval</td><td>")
+approval_parts None = fixed (codes "approval</td><td>")
+approval_parts (Some waits) = approval_of waits
 
 -- ---- steps
 
@@ -74,19 +78,14 @@ locked_parts waits = fixed (codes "locked") ++ lock_parts waits ++ fixed (codes 
 unfoldable pub activity_parts : ℕ → List Part
 activity_parts insert = Fixed (codes "activity of ") ∷ Number insert ∷ Fixed (codes ": do not release</td><td>nobody") ∷ []
 
--- what the other kinds say
-unfoldable pub kind_says : UrgentKind → List ℕ
-kind_says InDoubt = codes "IN DOUBT: on board or not?</td><td>anyone"
-kind_says FailedSince = codes "FAILED</td><td>look why"
-kind_says Flying = codes "on its way, or on board</td><td>nobody"
-kind_says LostReport = codes "REPORT LOST, or late</td><td>look why"
-kind_says Free = codes "release</td><td>anyone"
-kind_says other = codes "</td><td>"
-
 abbrev pub says_parts : UrgentKind → Option Waiting → List ℕ → List Part
+says_parts InDoubt waits text = fixed (codes "IN DOUBT: on board or not?</td><td>anyone")
+says_parts FailedSince waits text = fixed (codes "FAILED</td><td>look why")
 says_parts Approval waits text = approval_parts waits
 says_parts StepDue waits text = step_parts waits text
+says_parts Flying waits text = fixed (codes "on its way, or on board</td><td>nobody")
+says_parts LostReport waits text = fixed (codes "REPORT LOST, or late</td><td>look why")
+says_parts Free waits text = fixed (codes "release</td><td>anyone")
 says_parts (ActivityOf insert) waits text = activity_parts insert
 says_parts LockedForever waits text = forever_parts waits
 says_parts Locked waits text = locked_parts waits
-says_parts other waits text = fixed (kind_says other)

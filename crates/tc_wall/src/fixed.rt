@@ -2,7 +2,7 @@
 
 /// The policy of an open desk's page: its style and its one script are its own, and it asks its own desk alone.
 pub const POLICY: &str =
-    "default-src 'none'; style-src 'unsafe-inline'; img-src data:; script-src 'sha256-WFnSHxfpE+/yMjL/MjvgVSppN3ZnVsZXNoNEyM0HCH8='; connect-src 'self'";
+    "default-src 'none'; style-src 'unsafe-inline'; img-src data:; script-src 'sha256-XRfavC3Kd4vrs8ZeNuy/OQZ26ZZC8JYEeCosauWwpwU='; connect-src 'self'";
 
 /// The head of the page, up to its style.
 pub(crate) const HEAD: &str = r##"<!doctype html>
@@ -28,7 +28,7 @@ pub(crate) const STYLE: &str =
 body {
   display: grid; gap: 6px; padding: 6px; min-height: 100vh;
   grid-template: "heading heading moves" auto "tiles tiles moves" auto "link link moves" auto "urgent ways moves" auto "schedule ways moves" 1fr
-    / fit-content(700px) minmax(0, 1fr) auto;
+    / fit-content(650px) minmax(0, 1fr) auto;
   background: var(--ground); color: var(--text);
   font: 13px/18px "DejaVu Sans", Verdana, "Segoe UI", "Helvetica Neue", Arial, sans-serif; font-variant-numeric: tabular-nums;
 }
@@ -76,13 +76,13 @@ header .file { background: var(--text); color: var(--ground); font-weight: bold;
 .tile.zero small { color: #71809a; }
 
 /* (c) what is open */
-.urgent { grid-area: urgent; min-width: 640px; overflow-wrap: break-word; }
+.urgent { grid-area: urgent; min-width: 600px; overflow-wrap: break-word; }
 .urgent td { vertical-align: top; }
 .urgent td:first-child { border-left: 6px solid var(--line); padding-left: 6px; }
 .urgent td:nth-child(2), .urgent td:nth-child(3), .urgent td:last-child { white-space: nowrap; }
 .urgent td:last-child, .urgent th:last-child { text-align: right; padding-right: 0; }
-.urgent:not(:has(tbody tr:nth-child(25))) { font-size: 14px; line-height: 20px; }
-.urgent:not(:has(tbody tr:nth-child(25))) td { padding-top: 3px; padding-bottom: 3px; }
+.few .urgent { font-size: 14px; line-height: 20px; }
+.few .urgent td, .urgent:not(:has(tbody tr:nth-child(11))) td { padding-top: 3px; padding-bottom: 3px; }
 .urgent:not(:has(tbody tr:nth-child(11))) { font-size: 16px; line-height: 24px; }
 .urgent .InDoubt { background: #5a2800; font-weight: bold; }
 .urgent .InDoubt td:first-child { border-color: var(--vermilion); }
@@ -183,7 +183,7 @@ rect.Doubtful { fill: url(#hatch); }
   #age, #silent { display: none; }
   body { display: block; font-size: 11px; line-height: 15px; padding: 0; min-height: 0; }
   section { padding: 0; margin-bottom: 14px; }
-  .urgent:not(:has(tbody tr:nth-child(25))), .few .ways, .few .schedule { font-size: 13px; line-height: 17px; }
+  .urgent, .urgent:not(:has(tbody tr:nth-child(11))), .few .ways, .few .schedule { font-size: 13px; line-height: 17px; }
   h2 { break-after: avoid; border-bottom: 2px solid #000; margin-bottom: 3px; }
   thead { display: table-header-group; }
   tr, li, .tile, .link, .schedule { break-inside: avoid; }
@@ -222,7 +222,7 @@ pub(crate) const LIVE: &str = r##"">
 
 /// The script.
 pub(crate) const SCRIPT: &str =
-    r##"// Asks for the board again every 5 seconds and shows it in place of the last one. While none comes, the last one stays, below a red line that says since when.
+    r##"// Asks for the board again every 5 seconds and shows it in place of the last one. If none comes, the last one stays, below a red line that says since when.
 (() => {
   const EVERY = 5, PATIENCE = 10;
   let answered = Date.now(), why = '', asking = false;
@@ -239,12 +239,14 @@ pub(crate) const SCRIPT: &str =
     it.hidden = !text;
   };
 
-  // how old the last move is, and how long there was no board, by the clock of this browser
+  // how old the last move is, and since when there is no new board, by the clock of this browser
   const tell = () => {
     const moved = document.getElementById('moved');
     const age = moved ? Math.floor(Date.now() / 1000) - Number(moved.dataset.at) : 0;
     line('age', !moved ? '' : age < 0 ? 'which is later than the clock here' : `${span(age)} ago`);
-    line('silent', why && `NO BOARD since ${clock(answered)} UTC, ${span(Math.floor((Date.now() - answered) / 1000))}: ${why}. This is the last one.`);
+    const gone = Math.floor((Date.now() - answered) / 1000);
+    const silent = why || gone > EVERY + PATIENCE ? why || 'no answer' : '';
+    line('silent', silent && `NO BOARD since ${clock(answered)} UTC, ${span(gone)}: ${silent}. This is the last one.`);
   };
 
   const show = (text) => {
@@ -270,6 +272,7 @@ pub(crate) const SCRIPT: &str =
   };
 
   document.addEventListener('DOMContentLoaded', tell);
+  document.addEventListener('visibilitychange', ask);
   setInterval(tell, 1000);
   setInterval(ask, EVERY * 1000);
 })();

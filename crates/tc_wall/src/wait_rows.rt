@@ -2,7 +2,7 @@
 ghost use Rattle.std.specs.Prelude.{◌≡◌, OnOk};
 ghost use Rattle.std.specs.String.{string_bytes};
 ghost use Rattle.tc_wall.specs.Parts.{Adds};
-ghost use Rattle.tc_wall.specs.Waits.{activity_parts, approval_parts, approvals_parts, author_parts, forever_parts, kind_says, line_parts, lock_parts, locked_parts, next_parts, other_parts, says_parts, step_parts, text_of, wanting_parts, whom_word};
+ghost use Rattle.tc_wall.specs.Waits.{activity_parts, approval_of, approval_parts, approvals_parts, author_parts, forever_parts, line_parts, lock_parts, locked_parts, next_parts, other_parts, says_parts, step_parts, text_of, wanting_parts, whom_word};
 
 use crate::bounds::add_fixed;
 use crate::escapes::Escaped;
@@ -10,6 +10,9 @@ use std::alloc::{AllocError, Allocator};
 use std::fmt::Write;
 use tc_types::{Lock, Name, StepText, Waiting, Wanting};
 use tc_urgent::UrgentKind;
+
+/// What is said of an approval of which nothing is known.
+const APPROVAL: &str = "approval</td><td>";
 
 /// Adds how many approved, and how many are wanted.
 #[tactic(auto, unfolding(crate::specs::Waits::approvals_parts))]
@@ -61,6 +64,23 @@ fn add_wanting<A: Allocator + Copy>(
 }
 
 /// Adds that of a request, or of its stack.
+fn add_approval_of<A: Allocator + Copy>(
+    page: &mut String<A>,
+    waiting: &Waiting,
+) -> Result<(), AllocError>
+    ensures { OnOk result (Adds (approval_of waiting.now) (string_bytes page.old) (string_bytes page.new)) }
+{
+    match waiting {
+        Waiting::Request { approval, .. } => add_wanting(page, approval),
+        Waiting::Stack { approval, .. } => add_wanting(page, approval),
+        Waiting::Free { .. } => add_fixed(page, APPROVAL),
+        Waiting::Locked { .. } => add_fixed(page, APPROVAL),
+        Waiting::Doubtful { .. } => add_fixed(page, APPROVAL),
+        Waiting::Step { .. } => add_fixed(page, APPROVAL),
+    }
+}
+
+/// Adds that of what waits, if it is known.
 fn add_approval<A: Allocator + Copy>(
     page: &mut String<A>,
     waiting: &Option<Waiting>,
@@ -68,9 +88,8 @@ fn add_approval<A: Allocator + Copy>(
     ensures { OnOk result (Adds (approval_parts waiting.now) (string_bytes page.old) (string_bytes page.new)) }
 {
     match waiting {
-        Some(Waiting::Request { approval, .. }) => add_wanting(page, approval),
-        Some(Waiting::Stack { approval, .. }) => add_wanting(page, approval),
-        _ => add_fixed(page, "approval</td><td>"),
+        None => add_fixed(page, APPROVAL),
+        Some(waiting) => add_approval_of(page, waiting),
     }
 }
 
@@ -188,21 +207,6 @@ fn add_activity<A: Allocator + Copy>(page: &mut String<A>, insert: u32) -> Resul
     write!(page, "activity of {insert}: do not release</td><td>nobody")
 }
 
-/// What the other kinds say.
-#[tactic(auto, unfolding(crate::specs::Waits::kind_says))]
-fn kind_says(kind: &UrgentKind) -> &'static str
-    ensures { result.now ≡ kind_says kind.now }
-{
-    match kind {
-        UrgentKind::InDoubt => "IN DOUBT: on board or not?</td><td>anyone",
-        UrgentKind::FailedSince => "FAILED</td><td>look why",
-        UrgentKind::Flying => "on its way, or on board</td><td>nobody",
-        UrgentKind::LostReport => "REPORT LOST, or late</td><td>look why",
-        UrgentKind::Free => "release</td><td>anyone",
-        _ => "</td><td>",
-    }
-}
-
 /// Adds what a line of this kind waits for, and who may act on it.
 pub(crate) fn add_says<A: Allocator + Copy>(
     page: &mut String<A>,
@@ -213,11 +217,15 @@ pub(crate) fn add_says<A: Allocator + Copy>(
     ensures { OnOk result (Adds (says_parts kind.now waiting.now text.now) (string_bytes page.old) (string_bytes page.new)) }
 {
     match kind {
+        UrgentKind::InDoubt => add_fixed(page, "IN DOUBT: on board or not?</td><td>anyone"),
+        UrgentKind::FailedSince => add_fixed(page, "FAILED</td><td>look why"),
         UrgentKind::Approval => add_approval(page, waiting),
         UrgentKind::StepDue => add_step(page, waiting, text),
+        UrgentKind::Flying => add_fixed(page, "on its way, or on board</td><td>nobody"),
+        UrgentKind::LostReport => add_fixed(page, "REPORT LOST, or late</td><td>look why"),
+        UrgentKind::Free => add_fixed(page, "release</td><td>anyone"),
         UrgentKind::ActivityOf { insert } => add_activity(page, *insert),
         UrgentKind::LockedForever => add_forever(page, waiting),
         UrgentKind::Locked => add_locked(page, waiting),
-        other => add_fixed(page, kind_says(other)),
     }
 }

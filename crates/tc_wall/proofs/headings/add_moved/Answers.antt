@@ -5,4 +5,4 @@ use Rattle.tc_wall.proofs.headings.add_moved.Goals as goal
 
 pub returns : goal.returns
 unfolding moved_parts
-returns g c = added _ _ _ _ (rw (c.as_str-time.ensures.value, c.time_text-time.ensures) at c.write.ensures.bytes)
+returns g c = added _ _ _ _ (rw (c.as_str-time.ensures.value, c.time_text-time.ensures, c.get-moment.ensures.value) at c.write.ensures.bytes)
