@@ -15,12 +15,18 @@ from tests.http_cases import Patient, Served
 from tests.http_peer import Server
 from tests.report_cases import Reported, change, digests
 from tests.runs import write_files
-from tests.wall_desks import LONG, Noted, busy, empty, full, in_doubt, quiet
+from tests.wall_desks import LONG, Noted, busy, crowded, empty, full, in_doubt, quiet, stacked, trouble
 
 # How many lines of a desk one script has: it may have 1,048,576 bytes.
 AT_ONCE = 20_000
 SEED, DAYS, EVERY = 20261128, 6, 12
 SHOWN = Case("the board", get("/board"), 0)
+
+
+def scenes() -> list[tuple[str, Noted]]:
+    """Desks that are written by hand."""
+    return [("empty", empty()), ("quiet", quiet()), ("busy", busy()), ("long names", busy(LONG)), ("in doubt", in_doubt()), ("trouble", trouble()),
+            ("a stack", stacked(60)), ("crowded", crowded())]
 
 
 def posted(desk: Noted, line: str) -> bytes:
@@ -46,7 +52,7 @@ class Pages(Served):
 
     def test_scenes(self) -> None:
         """Desks that are written by hand, from their first act on."""
-        for name, desk in (("empty", empty()), ("quiet", quiet()), ("busy", busy()), ("long names", busy(LONG)), ("in doubt", in_doubt())):
+        for name, desk in scenes():
             self.cases.play(name, day_of(desk), looks=False)
 
     def test_many(self) -> None:
@@ -105,7 +111,7 @@ class Files(Patient, Reported):
 
     def test_scenes(self) -> None:
         """Desks that are written by hand: what is on its way stands there still."""
-        for name, desk in (("empty", empty()), ("quiet", quiet()), ("busy", busy()), ("long names", busy(LONG)), ("in doubt", in_doubt())):
+        for name, desk in scenes():
             self.asks(name, self.made_of(desk), desk)
 
     def test_days(self) -> None:
