@@ -73,8 +73,8 @@ pub steps_same : {S : Type 0} (g : Ghosts S) (at : Standing S) (stamp : Stamp) (
 steps_same g at stamp given reply going step urgent = steps g at at stamp given reply going step (λ replies held clean. held going clean) refl going urgent
 
 -- an act is no question of what is urgent
-pub acts_else : {S : Type 0} (room : Standing S) (given : Act) (reply : Reply) → is_question given ≡ false → TellsUrgent room given reply
-acts_else room given reply acts = λ from is.
+pub acts_else : (given : Act) → is_question given ≡ false → (from : ℕ) → given ≡ act.Ask (query.Urgent from) → ⊥
+acts_else given acts from is =
     let asks : is_question given ≡ true = ap is_question is in
     let clash : true ≡ false = sym asks ∙ acts in cc
 
