@@ -2,8 +2,7 @@
 
 The text is taken from the manual as it stands, but for its ports and the paths of its files. Asked are a login, the desk's own answers through the proxy, a
 body that is too long, many posts at the same moment, each of which has to be answered and to stand, a peer that says nothing, which holds nobody, and the board
-while there is no desk. Where
-nginx or openssl is not installed it says that this was not tried.
+while there is no desk. Where nginx or openssl is not installed it says that this was not tried.
 """
 import base64
 import os
