@@ -1,8 +1,8 @@
 """The proxy that docs/OPERATORS.md prints for nginx, before a served desk.
 
 The text is taken from the manual as it stands, but for its ports and the paths of its files. Asked are a login, the desk's own answers through the proxy, a
-body that is too long, many posts at the same moment, each of which has to be answered and to stand, and a peer that says nothing, which holds nobody. Where
-nginx or openssl is not installed it says that this was not tried.
+body that is too long, many posts at the same moment, each of which has to be answered and to stand, a peer that says nothing, which holds nobody, and the board
+while there is no desk. Where nginx or openssl is not installed it says that this was not tried.
 """
 import base64
 import os
@@ -127,8 +127,8 @@ class Behind(Served):
         with Server(cases.program, folder, "desk.db", None) as server:
             server.connect().close()
             proxy = begin(folder, own := free_port(), server.port)
-            try:
-                look(cases, Proxy(own))
-            finally:
-                proxy.terminate()
-                proxy.wait()
+            self.addCleanup(proxy.wait)
+            self.addCleanup(proxy.terminate)
+            look(cases, Proxy(own))
+        status, text = Proxy(own).ask("GET", "/board")
+        cases.tell("the board of no desk, which asks again", (502, True), (status, '<meta http-equiv="refresh" content="5">' in text))

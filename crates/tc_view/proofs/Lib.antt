@@ -4,4 +4,5 @@ pub mod WayLemmas
 pub mod PageLemmas
 pub mod UniqueLemmas
 pub mod LeftLemmas
+pub mod SoLemmas
 pub mod OneLemmas

@@ -114,21 +114,26 @@ tells_itself x =
     let second : (x.number == x.number) ≡ true = grind (arith, nat_tests) in
     rw (first, second) refl
 
--- where one of these has a key, what comes before all of them comes no later
-key_before : (y : UrgentLine) (xs : List UrgentLine) (u n : ℕ) → AllByRecursion (IsBefore y) xs → 0 < count u n xs → NoLater (urgency y.kind) y.number u n
-key_before y [] u n all some = absurd (unfold count in omega (arith, some))
-key_before y (x ∷ xs) u n all some = by_first (urgency x.kind == u) refl (x.number == n) refl
+-- a line has a key, or one of those after it has: what comes before all of them comes no later
+by_key : (y x : UrgentLine) (xs : List UrgentLine) (u n : ℕ) → IsBefore y x → 0 < count u n (x ∷ xs) → (0 < count u n xs → NoLater (urgency y.kind) y.number u n) → NoLater (urgency y.kind) y.number u n
+unfolding IsBefore tells has
+by_key y x xs u n first some rest = by_first (urgency x.kind == u) refl (x.number == n) refl
   where
-    later : tells u n x ≡ 0 → NoLater (urgency y.kind) y.number u n
-    later none = key_before y xs u n all.1 (omega (arith, some, count-cons u n x xs, none))
+    later : cond (urgency x.kind == u && x.number == n) 1 0 ≡ 0 → NoLater (urgency y.kind) y.number u n
+    later none = rest (omega (arith, some, count-cons u n x xs, none))
 
     by_first : (s : Bool) → (urgency x.kind == u) ≡ s → (t : Bool) → (x.number == n) ≡ t → NoLater (urgency y.kind) y.number u n
-    by_first true first true second =
-        let rank : urgency x.kind ≡ u = grind (arith, nat_tests, first) in
-        let number : x.number ≡ n = grind (arith, nat_tests, second) in
-        subst (λ m. NoLater (urgency y.kind) y.number u m) number (subst (λ v. NoLater (urgency y.kind) y.number v x.number) rank (unfold IsBefore in all.0))
-    by_first true first false second = later (unfold tells has in rw (first, second) refl)
-    by_first false first t second = later (unfold tells has in rw first refl)
+    by_first true one true two =
+        let rank : urgency x.kind ≡ u = grind (arith, nat_tests, one) in
+        let number : x.number ≡ n = grind (arith, nat_tests, two) in
+        subst (λ m. NoLater (urgency y.kind) y.number u m) number (subst (λ v. NoLater (urgency y.kind) y.number v x.number) rank first)
+    by_first true one false two = later (rw (one, two) refl)
+    by_first false one t two = later (rw one refl)
+
+key_before : (y : UrgentLine) (xs : List UrgentLine) (u n : ℕ) → AllByRecursion (IsBefore y) xs → 0 < count u n xs → NoLater (urgency y.kind) y.number u n
+unfolding count
+key_before y [] u n all some = absurd (omega (arith, some))
+key_before y (x ∷ xs) u n all some = by_key y x xs u n all.0 some (λ more. key_before y xs u n all.1 more)
 
 itself_before : (y : UrgentLine) → IsBefore y y
 unfolding IsBefore NoLater
@@ -240,7 +245,7 @@ all_given {X} {Y} h P (x ∷ xs) Q all one = by (h x) (one x all.0) (all_given h
     by None is others = others
     by (Some y) is others = (is, others)
 
-both_all : {X : Type 0} (P : X → Type 0) (xs ys : List X) → AllByRecursion P xs → AllByRecursion P ys → AllByRecursion P (xs ++ ys)
+pub both_all : {X : Type 0} (P : X → Type 0) (xs ys : List X) → AllByRecursion P xs → AllByRecursion P ys → AllByRecursion P (xs ++ ys)
 both_all P [] ys a b = b
 both_all P (x ∷ xs) ys a b = (a.0, both_all P xs ys a.1 b)
 
@@ -249,8 +254,8 @@ unfolding found_in
 request_told book stood scheduled r there = by (kind_of book stood scheduled r) refl (no_step book stood scheduled r (place_in book r.number))
   where
     by : (kind : Option UrgentKind) → kind_of book stood scheduled r ≡ kind → IfSome kind (λ k. (urgency k == 4) ≡ false) → IfSome (option_map (line_as book r) kind) (Told (found_in book stood scheduled))
-    by None is no = tt
-    by (Some k) is no = rw (no, there) (ap (option_map (line_as book r)) is)
+    by None is other = tt
+    by (Some k) is other = rw (other, there) (ap (option_map (line_as book r)) is)
 
 execution_told : (book : Book) (stood : ℕ) (scheduled : List ℕ) (x : BegunExecution) → execution_at book.log x.execution ≡ Some x → IfSome (execution_line book.log x) (Told (found_in book stood scheduled))
 unfolding found_in
@@ -274,5 +279,5 @@ pub lines_unique : (book : Book) (stood : ℕ) (scheduled : List ℕ) (one two :
 lines_unique book stood scheduled one two good a b =
     let told = lines_told book stood scheduled good in
     one_list (found_in book stood scheduled) a.lines b.lines (lines_rise a.lines a.sorted) (lines_rise b.lines b.sorted)
-    (shuffled_told _ (lines_of book stood scheduled) a.lines a.once told) (shuffled_told _ (lines_of book stood scheduled) b.lines b.once told)
+    (shuffled_told (found_in book stood scheduled) (lines_of book stood scheduled) a.lines a.once told) (shuffled_told (found_in book stood scheduled) (lines_of book stood scheduled) b.lines b.once told)
     (λ u n. unfold count in sum_by-IsPermutation (tells u n) (lines_of book stood scheduled) a.lines a.once ∙ sym (sum_by-IsPermutation (tells u n) (lines_of book stood scheduled) b.lines b.once))

@@ -1,5 +1,5 @@
 -- What is open, most urgent first, each line with what the board says beside it.
-use Rattle.std.specs.Prelude.{ℕ, ◌==◌, ◌&&◌, ◌||◌, Bool, false, count_by, drop, if◌then◌else◌, is_none, is_some, Option, Some, None, List, [], ◌∷◌, map}
+use Rattle.std.specs.Prelude.{◌≡◌, ◌⊎◌, ℕ, ◌==◌, ◌&&◌, ◌||◌, Bool, false, count_by, drop, if◌then◌else◌, is_none, is_some, Option, Some, None, List, [], ◌∷◌, map}
 use Rattle.std.specs.List.{filter_map, find}
 use Rattle.std.specs.Option.{option_and_then, option_map, option_map_or}
 use Rattle.tc_types.specs.declared.history.places.Place.TheVariants.{Scheduled}
@@ -12,9 +12,10 @@ use Rattle.tc_types.specs.Names.{is_same_name}
 use Rattle.tc_book.specs.Book.{Book, request_at}
 use Rattle.tc_book.specs.Waiting.{standing_past, waiting_of}
 use Rattle.tc_urgent.specs.declared.kinds.UrgentKind.{UrgentKind}
-use Rattle.tc_urgent.specs.declared.kinds.UrgentKind.TheVariants.{Approval}
+use Rattle.tc_urgent.specs.declared.kinds.UrgentKind.TheVariants.{Approval, StepDue}
 use Rattle.tc_urgent.specs.declared.lines.UrgentLine.{UrgentLine}
 use Rattle.tc_urgent.specs.Kinds.{urgency}
+use Rattle.tc_urgent.specs.Laws.{TellsSo}
 use Rattle.tc_wall.specs.declared.walls.Live.{Live}
 use Rattle.tc_wall.specs.declared.walls.UrgentRow.{UrgentRow}
 
@@ -62,6 +63,10 @@ row_with book line waits = record { line = line; critical = is_critical book lin
 -- a line, with what it waits for
 abbrev pub row_of : Book → UrgentLine → UrgentRow
 row_of book line = row_with book line (find (is_about line) (waiting_of book))
+
+-- a line is of an execution, or what it says of its request is so
+abbrev pub SaysSo : Book → UrgentLine → Type 0
+SaysSo book line = (line.kind ≡ StepDue) ⊎ ((r : Request) × (r.number ≡ line.number) × TellsSo book r line.kind)
 
 -- how many of these lines have this rank, for each rank
 abbrev pub count_of : List UrgentLine → ℕ → ℕ

@@ -8,6 +8,7 @@ ghost use Rattle.tc_urgent.specs.Kinds.{urgency};
 ghost use Rattle.tc_wall.specs.declared.walls.UrgentRow.{UrgentRow};
 ghost use Rattle.tc_wall.specs.declared.walls.Wall.{Wall};
 ghost use Rattle.tc_view.specs.Shown.{IsFilePage, ShowsBook};
+ghost use Rattle.tc_view.specs.Urgents.{SaysSo};
 
 use tc_wall::MOST_LINES;
 
@@ -20,4 +21,9 @@ pub fn a_file_has_one_page()
 pub fn nothing_more_urgent_is_left_out()
     ensures { (book : Book) (stood : ℕ) (scheduled : List ℕ) (wall : Wall) (is : ShowsBook book stood scheduled wall)
         → AllByRecursion (λ (row : UrgentRow). AllByRecursion (λ (left : UrgentLine). urgency row.line.kind ≤ urgency left.kind) (drop MOST_LINES is.shown)) wall.urgent.now }
+{}
+
+/// What a wall says of a request is so: what it shows as free stands at Approved, no open insert names it, and nothing locks it.
+pub fn what_is_shown_is_so()
+    ensures { (book : Book) (stood : ℕ) (scheduled : List ℕ) (wall : Wall) → ShowsBook book stood scheduled wall → AllByRecursion (λ (row : UrgentRow). SaysSo book row.line) wall.urgent.now }
 {}

@@ -37,6 +37,8 @@ fn page_of<A: Allocator + Copy + Drop>(
     let shown = folded(alloc, &lines)?;
     let rows = rows_of(alloc, records, &shown)?;
     let left = left_counts(&shown);
+    let rank = UrgentKind::FailedSince.urgency();
+    let failed = count_of(&shown, rank);
     let found = open_of(alloc, records, &lines)?;
     let gathered = gather(alloc, records, &found.first)?;
     let trails = trails_of(alloc, records, &gathered, &found.first)?;
@@ -49,7 +51,7 @@ fn page_of<A: Allocator + Copy + Drop>(
         urgent: &rows,
         lines: shown.len(),
         left: &left,
-        failed: count_of(&shown, UrgentKind::FailedSince.urgency()),
+        failed,
         opening,
         live,
         ways: &ways,

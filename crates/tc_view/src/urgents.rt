@@ -3,6 +3,7 @@ ghost use Rattle.std.specs.Prelude.{◌≡◌, IfOk, List, drop, map, take};
 ghost use Rattle.std.specs.List.{find};
 ghost use Rattle.std.specs.Option.{option_copied};
 ghost use Rattle.tc_types.specs.declared.link.activities.ListedActivity.{ListedActivity as SomeActivity};
+ghost use Rattle.tc_types.specs.declared.requests.Request.{Request as SomeRequest};
 ghost use Rattle.tc_book.specs.Waiting.{waiting_of};
 ghost use Rattle.tc_view.specs.Urgents.{counts_of, is_about, is_critical, is_of_stack, request_of, row_of, row_with, scheduled_in, step_text, text_of};
 
@@ -42,10 +43,17 @@ fn is_about(line: &UrgentLine, waiting: &Waiting) -> bool
 }
 
 /// What a line waits for, among this.
+fn find_wait<'a>(waiting: &'a [Waiting], line: &UrgentLine) -> Option<&'a Waiting>
+    ensures { option_copied result ≡ find (is_about line.now) waiting.now }
+{
+    waiting.iter().find(|one| is_about(line, one))
+}
+
+/// The same, as a value.
 fn wait_of(waiting: &[Waiting], line: &UrgentLine) -> Option<Waiting>
     ensures { result ≡ find (is_about line.now) waiting.now }
 {
-    waiting.iter().find(|one| is_about(line, one)).copied()
+    find_wait(waiting, line).copied()
 }
 
 /// The text of the step of a procedure with this number.
@@ -127,6 +135,18 @@ fn row_with<A: Allocator + Copy + Drop>(
     }
 }
 
+/// A line, with what it waits for among all that waits.
+fn row_of<A: Allocator + Copy + Drop>(
+    records: &Records<A>,
+    waiting: &[Waiting],
+    line: &UrgentLine,
+) -> UrgentRow
+    requires { waiting.now ≡ waiting_of records.now.book }
+    ensures { result ≡ row_of records.now.book line.now }
+{
+    row_with(records, line, &wait_of(waiting, line))
+}
+
 /// A row for each of these lines. Fails if memory is refused.
 fn each_of<A: Allocator + Copy + Drop>(
     alloc: A,
@@ -139,23 +159,24 @@ fn each_of<A: Allocator + Copy + Drop>(
 {
     let mut rows = Vec::new(alloc);
     for line in lines {
-        add(&mut rows, &row_with(records, line, &wait_of(waiting, line)))?;
+        add(&mut rows, &row_of(records, waiting, line))?;
     }
     Ok(rows)
 }
 
-/// The first of these lines, as many as are shown.
-fn first_of(lines: &[UrgentLine]) -> &[UrgentLine]
-    ensures { result.now ≡ take MOST_LINES lines.now }
+/// The first of these lines, at most so many.
+fn first_of(lines: &[UrgentLine], most: usize) -> &[UrgentLine]
+    ensures { result.now ≡ take most lines.now }
 {
-    &lines[..MOST_LINES.min(lines.len())]
+    &lines[..most.min(lines.len())]
 }
 
-/// The lines that are not shown.
-fn left_of(lines: &[UrgentLine]) -> &[UrgentLine]
-    ensures { result.now ≡ drop MOST_LINES lines.now }
+/// The lines after so many.
+fn left_of(lines: &[UrgentLine], most: usize) -> &[UrgentLine]
+    ensures { result.now ≡ drop most lines.now }
 {
-    &lines[MOST_LINES.min(lines.len())..]
+    let start = most.min(lines.len());
+    &lines[start..]
 }
 
 /// A row for each of the first of these lines. Fails if memory is refused.
@@ -167,7 +188,7 @@ pub(crate) fn rows_of<A: Allocator + Copy + Drop>(
     ensures { IfOk result (λ rows. rows.items ≡ map (row_of records.now.book) (take MOST_LINES lines.now)) }
 {
     let waiting = records.waiting(alloc)?;
-    each_of(alloc, records, &waiting, first_of(lines))
+    each_of(alloc, records, &waiting, first_of(lines, MOST_LINES))
 }
 
 /// How many of these lines have each rank.
@@ -192,7 +213,7 @@ fn counts_of(lines: &[UrgentLine]) -> [usize; KINDS]
 pub(crate) fn left_counts(lines: &[UrgentLine]) -> [usize; KINDS]
     ensures { result ≡ counts_of (drop MOST_LINES lines.now) }
 {
-    counts_of(left_of(lines))
+    counts_of(left_of(lines, MOST_LINES))
 }
 
 /// The requests of these activities. Fails if memory is refused.
@@ -209,6 +230,17 @@ pub(crate) fn requests_of<A: Allocator + Copy>(
     Ok(requests)
 }
 
+/// The numbers of these requests. Fails if memory is refused.
+fn numbers_of<A: Allocator + Copy>(alloc: A, found: &[Request]) -> Result<Vec<u32, A>, AllocError>
+    ensures { IfOk result (λ numbers. numbers.items ≡ map (λ (r : SomeRequest). r.number) found.now) }
+{
+    let mut numbers = Vec::new(alloc);
+    for request in found {
+        numbers.push(request.number.get())?;
+    }
+    Ok(numbers)
+}
+
 /// The requests of a book at Scheduled. Fails if memory is refused.
 pub(crate) fn scheduled_in<A: Allocator + Copy + Drop>(
     alloc: A,
@@ -218,9 +250,5 @@ pub(crate) fn scheduled_in<A: Allocator + Copy + Drop>(
 {
     let most = records.count() as usize;
     let found = records.standing(alloc, Place::Scheduled, 0, most)?;
-    let mut requests = Vec::new(alloc);
-    for request in &found {
-        requests.push(request.number.get())?;
-    }
-    Ok(requests)
+    numbers_of(alloc, &found)
 }
