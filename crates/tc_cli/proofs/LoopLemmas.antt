@@ -1,5 +1,5 @@
 -- A loop's exchanges.
-use Rattle.std.proofs.Common.{refl, Option, List, [], ◌∷◌}
+use Rattle.std.proofs.Common.{refl, Option, [], ◌∷◌}
 use Rattle.sqlite_trees.specs.declared.store.Store.{Ghosts}
 use Rattle.tc_desk.specs.Promise.{KeepsPromise}
 use Rattle.tc_world.specs.EitherLink.{either}

@@ -4,7 +4,7 @@ use Rattle.std.proofs.Common.{subst}
 use Rattle.sqlite_trees.specs.declared.store.Store.{Ghosts}
 use Rattle.tc_front.specs.Front.{Asked}
 use Rattle.tc_room.specs.Joined.{Standing}
-use Rattle.tc_api.specs.Kept.{KeepsRoom, ServesAll, ServesOne}
+use Rattle.tc_api.specs.Kept.{KeepsRoom, ServesAll}
 
 -- A room came to another by exchanges, one after the other.
 pub record ServesSome {S : Type 0} (g : Ghosts S) (old new : Standing S) : Type 0 where
