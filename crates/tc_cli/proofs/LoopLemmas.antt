@@ -1,5 +1,5 @@
 -- A loop's exchanges.
-use Rattle.std.proofs.Common.{refl, Option, List, [], ◌∷◌}
+use Rattle.std.proofs.Common.{refl, Option, [], ◌∷◌}
 use Rattle.sqlite_trees.specs.declared.store.Store.{Ghosts}
 use Rattle.tc_desk.specs.Promise.{KeepsPromise}
 use Rattle.tc_world.specs.EitherLink.{either}
@@ -11,9 +11,9 @@ use Rattle.tc_cli.specs.Looping.{ServesLoop, ServesSome}
 
 -- one exchange
 pub serves_one : {S : Type 0} (g : Ghosts S) (old new : Standing S) → (read : Option Asked) × ServesOne g old read new → ServesSome g old new
-serves_one g old new one = (one.0 ∷ [], new, one.1, refl)
+serves_one g old new one = record { reads = one.0 ∷ []; serves = (new, one.1, refl) }
 
 -- exchanges keep the promise that was kept before
 pub loop_serves : {S : Type 0} (g : Ghosts S) (start end : Standing S) → KeepsPromise either (desk_in start) → ServesSome g start end
     → ServesLoop g start end
-loop_serves g start end promise some = record { reads = some.0; serves = some.1; keeps = all_keep g start end some.0 promise some.1 }
+loop_serves g start end promise some = record { reads = some.reads; serves = some.serves; keeps = all_keep g start end some.reads promise some.serves }

@@ -163,9 +163,9 @@ impl<S: Alter + Drop, W: Write> Client for HostClient<'_, '_, '_, '_, '_, S, W> 
     // no contract can say what a socket gives: only that the room served exchanges
     ghost did = { λ old _ new. ServesSome S.Store old.room new.room };
 
-    ghost nothing = { λ client. serves_none S.Store client.room };
+    ghost nothing = { λ client. serves_none _ client.room };
 
-    ghost joined = { λ one two three _ _ first then. serves_more S.Store one.room two.room three.room first then };
+    ghost joined = { λ one two three _ _ first then. serves_more _ one.room two.room three.room first then };
 
     fn send(&mut self, request: &[u8]) -> Result<Vec<u8>, ServiceFault> {
         response_to(self.rt, self.server, &mut self.room, request)
