@@ -10,7 +10,7 @@ use Rattle.tc_decoded.specs.declared.places.Place.{Place}
 use Rattle.tc_decoded.specs.declared.rows.Row.{Row}
 use Rattle.tc_decoded.specs.declared.rows.Word.{Word}
 use Rattle.tc_decoded.specs.declared.rows.Word.TheVariants as words
-use Rattle.tc_decoded.specs.Added.{Added}
+use Rattle.tc_decoded.specs.Added.{Added, Encloses}
 use Rattle.tc_decoded.specs.Places.{later}
 use Rattle.tc_decoded.specs.ReportLines.{TelemetryTold, telemetry_rows}
 use Rattle.tc_decoded.specs.ReportLines as reports
@@ -27,6 +27,21 @@ pub three : (before middle later_lines after a b c : List Line) → middle ≡ b
     → after ≡ before ++ (a ++ b ++ c)
 three before middle later_lines after a b c first second third =
     two before later_lines after (a ++ b) c (two before middle later_lines a b first second) third
+
+-- a layer around another
+pub enclosed : (place : Place) (word : Option Word) (octets : List ℕ) (rows closing first last : List Row) (Told Inside : List Line → Type 0)
+    (before middle later_lines after : List Line) → rows ≡ first → closing ≡ last → ((lines : List Line) → Told lines → Inside lines)
+    → middle ≡ before ++ told place word octets rows → Added Told middle later_lines → after ≡ later_lines ++ told place word octets closing
+    → Added (Encloses place word octets first Inside last) before after
+enclosed place word octets rows closing first last Told Inside before middle later_lines after r c same begins inner ends =
+    record {
+      lines = told place word octets first ++ inner.lines ++ told place word octets last;
+      after =
+          three before middle later_lines after (told place word octets first) inner.lines (told place word octets last)
+          (begins ∙ ap (λ (l : List Row). before ++ told place word octets l) r) inner.after
+          (ends ∙ ap (λ (l : List Row). later_lines ++ told place word octets l) c);
+      holds = (inner.lines, same inner.lines inner.holds, refl);
+    }
 
 -- ---- activities
 
@@ -115,20 +130,14 @@ pub inserted_told : (place there : Place) (word : Option Word) (profile : Profil
     → middle ≡ before ++ told place word octets rows → Added (ActivitiesTold number there word profile inner) middle later_lines
     → after ≡ later_lines ++ told place word octets closing → Added (FieldsTold true place word profile octets) before after
 inserted_told place there word profile octets inner number rows closing before middle later_lines after r n t i c first activities last =
-    let told_activities : ActivitiesTold (slice_index octets 11) (later place 12) word profile (inserted octets) activities.lines =
-    subst (λ (k : ℕ). ActivitiesTold k (later place 12) word profile (inserted octets) activities.lines) n
-    (subst (λ (q : Place). ActivitiesTold number q word profile (inserted octets) activities.lines) t
-    (subst (λ (o : List ℕ). ActivitiesTold number there word profile o activities.lines) i activities.holds)) in
-    let first_lines : List Line = told place word octets (headers profile octets ++ data_rows profile octets) in
-    let last_lines : List Line = told place word octets (closing_rows word octets) in
-    record {
-      lines = first_lines ++ activities.lines ++ last_lines;
-      after =
-          three before middle later_lines after first_lines activities.lines last_lines
-          (first ∙ ap (λ (l : List Row). before ++ told place word octets l) r) activities.after
-          (last ∙ ap (λ (l : List Row). later_lines ++ told place word octets l) c);
-      holds = (activities.lines, told_activities, refl);
-    }
+    enclosed place word octets rows closing (headers profile octets ++ data_rows profile octets) (closing_rows word octets)
+    (ActivitiesTold number there word profile inner)
+    (ActivitiesTold (slice_index octets 11) (later place 12) word profile (inserted octets))
+    before middle later_lines after r c
+    (λ lines holds. subst (λ (k : ℕ). ActivitiesTold k (later place 12) word profile (inserted octets) lines) n
+    (subst (λ (q : Place). ActivitiesTold number q word profile (inserted octets) lines) t
+    (subst (λ (o : List ℕ). ActivitiesTold number there word profile o lines) i holds)))
+    first activities last
 
 pub telecommand_told : (insert : Bool) (place : Place) (word : Option Word) (profile : Profile) (octets : List ℕ) (before after : List Line)
     → is_insert word octets ≡ insert → Judged profile octets word → Added (FieldsTold insert place word profile octets) before after

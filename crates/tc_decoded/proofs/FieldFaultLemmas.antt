@@ -1,6 +1,6 @@
 -- A layer that its reader refuses has a field that does not fit.
 use Rattle.std.proofs.Common.{◌≡◌, ◌≢◌, ◌≤◌, ◌<◌, ◌^◌, ◌+◌, ◌-◌, ◌/◌, ◌%◌, ℕ, zero, suc, Bool, true, false, List, [], ◌∷◌, ◌++◌, length, drop, take}
-use Rattle.std.proofs.Common.{refl, sym, ap, ◌∙◌, subst, inl, inr, arith}
+use Rattle.std.proofs.Common.{refl, sym, ap, ◌∙◌, subst, inl, inr, get_or, arith}
 use Rattle.std.specs.Prelude.{Option, Some, None, Ok, Err, Result, ◌⊎◌, ◌*◌, ◌==◌, ◌&&◌, ◌||◌, not, nat_le, if◌then◌else◌, IsTrue, slice_index}
 use Rattle.std.specs.List.{list_any}
 use Rattle.std.proofs.lemmas.Bool.{cases_lt, eq-eqb, eqb-true, leb-true, ne_eqb, not-false, true≢false}
@@ -37,7 +37,7 @@ use Rattle.tc_decoded.specs.TmFrameLines.{tm_header_rows, tm_word}
 
 -- ---- tables
 
-is_word : Option Word → Bool
+abbrev is_word : Option Word → Bool
 is_word None = false
 is_word (Some word) = true
 
@@ -60,7 +60,7 @@ ended false place word octets row rows more e rest h =
 
 pub fault_ends : (place : Place) (word : Word) (octets : List ℕ) (rows more : List Row) → HasFault word octets rows
     → told place (Some word) octets (rows ++ more) ≡ told place (Some word) octets rows
-fault_ends place word octets [] more h = absurd h
+fault_ends place word octets [] more h = absurd (true≢false (sym h))
 fault_ends place word octets (row ∷ rows) more h =
     ended (fails (Some word) octets row) place word octets row rows more refl (fault_ends place word octets rows more) h
 
@@ -206,9 +206,10 @@ header_fault : (profile : Profile) (octets : List ℕ) (word : Word) (rest : Lis
     → HasFault word octets
     (frames.front_rows profile octets ++ frames.packet_rows profile octets ++ rest)
 header_fault profile octets word rest h =
-    in_front word octets (frames.front_rows profile octets) (frames.packet_rows profile octets ++ rest)
+    in_front word octets (frames.front_rows profile octets ++ frames.packet_rows profile octets) rest
+    (in_front word octets (frames.front_rows profile octets) (frames.packet_rows profile octets)
     (in_front word octets (frames.header_rows profile octets)
-    (if frames.is_control octets then frames.control_rows profile octets else frames.segment_rows profile.tc.map) h)
+    (if frames.is_control octets then frames.control_rows profile octets else frames.segment_rows profile.tc.map) h))
 
 kind_fault : (profile : Profile) (octets : List ℕ) → AreOctets octets → pair_at octets 0 / 2 ^ 12 % 2 ^ 2 ≢ 0 → pair_at octets 0 / 2 ^ 12 % 2 ^ 2 ≢ 3
     → HeaderFault profile octets words.Kind
@@ -218,48 +219,50 @@ kind_fault profile octets are plain control =
     (λ e. both_bits (slice_index octets 0) (slice_index octets 1) (are 0) (are 1) e plain control))
 
 -- the word of a fault, in the place of another word that is the same
-given : Word → Option Word → Word
+abbrev given : Word → Option Word → Word
 given other None = other
 given other (Some word) = word
 
 by_word : (word known : Word) (octets : List ℕ) (rows : List Row) → Some word ≡ Some known → HasFault known octets rows → HasFault word octets rows
 by_word word known octets rows e h = subst (λ (w : Word). HasFault w octets rows) (sym (ap (given word) e)) h
 
+abbrev frame_rows : Profile → List ℕ → List Row
+frame_rows profile octets = frames.front_rows profile octets ++ frames.packet_rows profile octets ++ frame_check profile.tc.fecf octets
+
 tc_frame_judged : (profile : Profile) (octets : List ℕ) (word : Word) (fault : TcFault) → AreOctets octets → ReadsFrame profile octets (Err fault)
     → Some word ≡ frames.word_of (Err fault) → word ≢ words.Content
-    → HasFault word octets (frames.front_rows profile octets ++ frames.packet_rows profile octets ++ frame_check profile.tc.fecf octets)
+    → HasFault word octets (frame_rows profile octets)
 tc_frame_judged profile octets word tc_faults.Length are says e not_content =
-    by_word word words.Length octets _ e
+    by_word word words.Length octets (frame_rows profile octets) e
     (header_fault profile octets words.Length (frame_check profile.tc.fecf octets)
     (by_none _ (λ none. says (long_frame profile octets none))))
 tc_frame_judged profile octets word tc_faults.Check are says e not_content =
-    by_word word words.Check octets _ e
-    (behind words.Check octets (frames.front_rows profile octets) (frames.packet_rows profile octets ++ frame_check profile.tc.fecf octets)
-    (behind words.Check octets (frames.packet_rows profile octets) (frame_check profile.tc.fecf octets)
-    (frame_checked profile.tc.fecf octets are says.1)))
+    by_word word words.Check octets (frame_rows profile octets) e
+    (behind words.Check octets (frames.front_rows profile octets ++ frames.packet_rows profile octets) (frame_check profile.tc.fecf octets)
+    (frame_checked profile.tc.fecf octets are says.1))
 tc_frame_judged profile octets word tc_faults.Version are says e not_content =
-    by_word word words.Version octets _ e
+    by_word word words.Version octets (frame_rows profile octets) e
     (header_fault profile octets words.Version (frame_check profile.tc.fecf octets)
     (by_none _ (λ none. says.2 (sound_version profile octets are none))))
 tc_frame_judged profile octets word tc_faults.Spacecraft are says e not_content =
-    by_word word words.Spacecraft octets _ e
+    by_word word words.Spacecraft octets (frame_rows profile octets) e
     (header_fault profile octets words.Spacecraft (frame_check profile.tc.fecf octets)
     (at_row words.Spacecraft octets (frames.header_rows profile octets) 5 (omega arith)
     (differs (pair_at octets 0 / 2 ^ 0 % 2 ^ 10) profile.scid (λ same_id. says.4 (omega (arith, same_id, are 0, are 1))))))
 tc_frame_judged profile octets word tc_faults.Channel are says e not_content =
-    by_word word words.Channel octets _ e
+    by_word word words.Channel octets (frame_rows profile octets) e
     (header_fault profile octets words.Channel (frame_check profile.tc.fecf octets)
     (at_row words.Channel octets (frames.header_rows profile octets) 6 (omega arith)
     (differs (slice_index (drop 2 octets) 0 / 2 ^ 2 % 2 ^ 6) profile.tc.vcid
     (λ same_id. says.5 (omega (arith, same_id, are 2, are 3, octet_dropped octets 2))))))
 tc_frame_judged profile octets word tc_faults.Kind are says e not_content =
-    by_word word words.Kind octets _ e
+    by_word word words.Kind octets (frame_rows profile octets) e
     (header_fault profile octets words.Kind (frame_check profile.tc.fecf octets) (kind_fault profile octets are says.1 says.2))
 tc_frame_judged profile octets word tc_faults.Content are says e not_content = absurd (not_content (ap (given word) e))
 
 read_fault : (profile : Profile) (octets : List ℕ) (word : Word) (read : Result TcFrame TcFault) → AreOctets octets → ReadsFrame profile octets read
     → Some word ≡ frames.word_of read → word ≢ words.Content
-    → HasFault word octets (frames.front_rows profile octets ++ frames.packet_rows profile octets ++ frame_check profile.tc.fecf octets)
+    → HasFault word octets (frame_rows profile octets)
 read_fault profile octets word (Ok frame) are says e not_content = absurd (some≢none e)
 read_fault profile octets word (Err fault) are says e not_content = tc_frame_judged profile octets word fault are says e not_content
 
@@ -277,6 +280,11 @@ long_packet profile octets are none =
     let told = same (bits_in octets 4 (record { bit = 0; bits = 16 })) (length octets - 7)
     (fits_at words.Length octets (telecommands.headers profile octets) 7 (omega arith) none) in
     record { least = least; told = omega (arith, told, least, pair_value octets 4 are) }
+
+-- version 000, type 1 and a secondary header
+header_bits : (first second : ℕ) → first < 2 ^ 8 → second < 2 ^ 8 → first / 2 ^ 5 % 2 ^ 3 ≡ 0 → first / 2 ^ 4 % 2 ^ 1 ≡ 1
+    → first / 2 ^ 3 % 2 ^ 1 ≡ 1 → (first * 256 + second) / 2 ^ 11 ≡ 3
+header_bits first second f s version kind secondary = omega (arith, f, s, version, kind, secondary)
 
 sound_header : (profile : Profile) (octets : List ℕ) → AreOctets octets
     → list_any (fails (Some words.Header) octets) (telecommands.headers profile octets) ≡ false → HasHeader profile octets
@@ -296,11 +304,6 @@ sound_header profile octets are none =
       pus = omega (arith, pus, octet_dropped octets 6, are 6);
       source = sym (pair_value octets 9 are) ∙ source;
     }
-
--- version 000, type 1 and a secondary header
-header_bits : (first second : ℕ) → first < 2 ^ 8 → second < 2 ^ 8 → first / 2 ^ 5 % 2 ^ 3 ≡ 0 → first / 2 ^ 4 % 2 ^ 1 ≡ 1
-    → first / 2 ^ 3 % 2 ^ 1 ≡ 1 → (first * 256 + second) / 2 ^ 11 ≡ 3
-header_bits first second f s version kind secondary = omega (arith, f, s, version, kind, secondary)
 
 no_subtype_0 : (value : ℕ) → is_schedule_subtype value ≡ true → value ≡ 0 → ⊥
 no_subtype_0 value e zero_is = true≢false (sym e ∙ ap is_schedule_subtype zero_is)
@@ -330,34 +333,34 @@ sound_type profile octets are none =
       scheduled = subtype.1;
     }
 
-abbrev AllRows : Profile → List ℕ → List Row
-AllRows profile octets = telecommands.headers profile octets ++ telecommands.data_rows profile octets ++ packet_check octets ∷ []
+abbrev all_rows : Profile → List ℕ → List Row
+all_rows profile octets = telecommands.headers profile octets ++ telecommands.data_rows profile octets ++ packet_check octets ∷ []
 
 headers_fault : (profile : Profile) (octets : List ℕ) (word : Word) → HasFault word octets (telecommands.headers profile octets)
-    → HasFault word octets (AllRows profile octets)
+    → HasFault word octets (all_rows profile octets)
 headers_fault profile octets word h =
-    in_front word octets (telecommands.headers profile octets) (telecommands.data_rows profile octets ++ packet_check octets ∷ []) h
+    in_front word octets (telecommands.headers profile octets ++ telecommands.data_rows profile octets) (packet_check octets ∷ [])
+    (in_front word octets (telecommands.headers profile octets) (telecommands.data_rows profile octets) h)
 
 packet_judged : (profile : Profile) (octets : List ℕ) (word : Word) (fault : PacketFault) → AreOctets octets → ReadsPacket profile octets (Err fault)
-    → Some word ≡ telecommands.word_of (Err fault) → word ≢ words.Data → HasFault word octets (AllRows profile octets)
+    → Some word ≡ telecommands.word_of (Err fault) → word ≢ words.Data → HasFault word octets (all_rows profile octets)
 packet_judged profile octets word packet_faults.Length are says e not_data =
-    by_word word words.Length octets _ e
+    by_word word words.Length octets (all_rows profile octets) e
     (headers_fault profile octets words.Length (by_none _ (λ none. says (long_packet profile octets are none))))
 packet_judged profile octets word packet_faults.Check are says e not_data =
-    by_word word words.Check octets _ e
-    (behind words.Check octets (telecommands.headers profile octets) (telecommands.data_rows profile octets ++ packet_check octets ∷ [])
-    (behind words.Check octets (telecommands.data_rows profile octets) (packet_check octets ∷ [])
-    (at_row words.Check octets (packet_check octets ∷ []) 0 (omega arith) (check_row octets are says.1))))
+    by_word word words.Check octets (all_rows profile octets) e
+    (behind words.Check octets (telecommands.headers profile octets ++ telecommands.data_rows profile octets) (packet_check octets ∷ [])
+    (at_row words.Check octets (packet_check octets ∷ []) 0 (omega arith) (check_row octets are says.1)))
 packet_judged profile octets word packet_faults.Header are says e not_data =
-    by_word word words.Header octets _ e
+    by_word word words.Header octets (all_rows profile octets) e
     (headers_fault profile octets words.Header (by_none _ (λ none. says.2 (sound_header profile octets are none))))
 packet_judged profile octets word packet_faults.Subtype are says e not_data =
-    by_word word words.Subtype octets _ e
+    by_word word words.Subtype octets (all_rows profile octets) e
     (headers_fault profile octets words.Subtype (by_none _ (λ none. says.3 (sound_type profile octets are none))))
 packet_judged profile octets word packet_faults.Data are says e not_data = absurd (not_data (ap (given word) e))
 
 read_packet_fault : (profile : Profile) (octets : List ℕ) (word : Word) (read : Result Flight PacketFault) → AreOctets octets
-    → ReadsPacket profile octets read → Some word ≡ telecommands.word_of read → word ≢ words.Data → HasFault word octets (AllRows profile octets)
+    → ReadsPacket profile octets read → Some word ≡ telecommands.word_of read → word ≢ words.Data → HasFault word octets (all_rows profile octets)
 read_packet_fault profile octets word (Ok flight) are says e not_data = absurd (some≢none e)
 read_packet_fault profile octets word (Err fault) are says e not_data = packet_judged profile octets word fault are says e not_data
 

@@ -14,7 +14,7 @@ use Rattle.tc_decoded.specs.Tables.{frame_check}
 use Rattle.tc_decoded.specs.TcFrameLines.{FieldsTold, closing_rows, front_rows, packet_at, packet_in, packet_length}
 use Rattle.tc_decoded.specs.Telecommands.{TelecommandTold}
 use Rattle.tc_decoded.specs.TmFrameLines as tm
-use Rattle.tc_decoded.proofs.AddedLemmas.{three}
+use Rattle.tc_decoded.proofs.AddedLemmas.{enclosed}
 
 -- ---- telecommand frames
 
@@ -28,19 +28,12 @@ carrier place there profile octets packet begin number rows closing before middl
     let there_is : there ≡ later place (packet_at profile) = t ∙ ap (later place) b in
     let packet_is : packet ≡ packet_in profile octets =
     p ∙ ap (λ (k : ℕ). take k (drop begin octets)) n ∙ ap (λ (k : ℕ). take (packet_length profile octets) (drop k octets)) b in
-    let told_inner : TelecommandTold (later place (packet_at profile)) profile (packet_in profile octets) inner.lines =
-    subst (λ (q : Place). TelecommandTold q profile (packet_in profile octets) inner.lines) there_is
-    (subst (λ (o : List ℕ). TelecommandTold there profile o inner.lines) packet_is inner.holds) in
-    let first_lines : List Line = told place None octets (front_rows profile octets) in
-    let last_lines : List Line = told place None octets (closing_rows profile None octets) in
-    record {
-      lines = first_lines ++ inner.lines ++ last_lines;
-      after =
-          three before middle later_lines after first_lines inner.lines last_lines
-          (first ∙ ap (λ (l : List Row). before ++ told place None octets l) r) inner.after
-          (last ∙ ap (λ (l : List Row). later_lines ++ told place None octets l) c);
-      holds = (inner.lines, told_inner, refl);
-    }
+    enclosed place None octets rows closing (front_rows profile octets) (closing_rows profile None octets) (TelecommandTold there profile packet)
+    (TelecommandTold (later place (packet_at profile)) profile (packet_in profile octets))
+    before middle later_lines after r c
+    (λ lines holds. subst (λ (q : Place). TelecommandTold q profile (packet_in profile octets) lines) there_is
+    (subst (λ (o : List ℕ). TelecommandTold there profile o lines) packet_is holds))
+    first inner last
 
 -- ---- telemetry frames
 
@@ -52,21 +45,11 @@ pub taken_told : (whole there : Place) (profile : Profile) (octets : List ℕ) (
     → after ≡ later_lines ++ told whole None octets closing
     → Added (tm.FieldsTold the_whole profile octets (Ok frame)) before after
 taken_told whole there profile octets frame rows closing before middle later_lines after w r t c first content last =
-    let there_is : there ≡ later the_whole 6 = t ∙ ap (λ (q : Place). later q 6) w in
-    let told_content : tm.DataTold (tm.has_packets profile (tm_parts frame)) (later the_whole 6) profile (tm_parts frame) content.lines =
-    subst (λ (q : Place). tm.DataTold (tm.has_packets profile (tm_parts frame)) q profile (tm_parts frame) content.lines) there_is content.holds in
-    let closing_is : List Row = tm.word_rows frame.word (6 + length frame.«data».now) ++ frame_check profile.tm.fecf octets in
-    let first_lines : List Line = told the_whole None octets (tm.tm_header_rows profile octets) in
-    let last_lines : List Line = told the_whole None octets closing_is in
-    let first_is : told whole None octets rows ≡ first_lines =
-    ap (λ (q : Place). told q None octets rows) w ∙ ap (told the_whole None octets) r in
-    let last_is : told whole None octets closing ≡ last_lines =
-    ap (λ (q : Place). told q None octets closing) w ∙ ap (told the_whole None octets) c in
-    record {
-      lines = first_lines ++ content.lines ++ last_lines;
-      after =
-          three before middle later_lines after first_lines content.lines last_lines
-          (first ∙ ap (λ (l : List Line). before ++ l) first_is) content.after
-          (last ∙ ap (λ (l : List Line). later_lines ++ l) last_is);
-      holds = (content.lines, told_content, refl);
-    }
+    subst (λ (q : Place). Added (tm.FieldsTold q profile octets (Ok frame)) before after) w
+    (enclosed whole None octets rows closing (tm.tm_header_rows profile octets)
+    (tm.word_rows frame.word (6 + length frame.«data».now) ++ frame_check profile.tm.fecf octets)
+    (tm.DataTold (tm.has_packets profile (tm_parts frame)) there profile (tm_parts frame))
+    (tm.DataTold (tm.has_packets profile (tm_parts frame)) (later whole 6) profile (tm_parts frame))
+    before middle later_lines after r c
+    (λ lines holds. subst (λ (q : Place). tm.DataTold (tm.has_packets profile (tm_parts frame)) q profile (tm_parts frame) lines) t holds)
+    first content last)

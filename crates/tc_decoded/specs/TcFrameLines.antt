@@ -16,6 +16,7 @@ use Rattle.tc_decoded.specs.declared.rows.Fit.TheVariants as fit
 use Rattle.tc_decoded.specs.declared.rows.Word.{Word}
 use Rattle.tc_decoded.specs.declared.rows.Word.TheVariants as words
 use Rattle.tc_decoded.specs.declared.rows.Row.{Row}
+use Rattle.tc_decoded.specs.Added.{Encloses}
 use Rattle.tc_decoded.specs.Places.{later}
 use Rattle.tc_decoded.specs.Rows.{bits_in, counted, field, plain, told}
 use Rattle.tc_decoded.specs.Tables.{frame_check, refused}
@@ -124,8 +125,8 @@ is_taken (Some word) = false
 -- A frame that has a packet, and is taken, has the lines of its packet; any other has its own fields alone.
 abbrev pub FieldsTold : Bool → Place → Option Word → Profile → List ℕ → List Line → Type 0
 FieldsTold true place word profile octets lines =
-    (inner : List Line) × TelecommandTold (later place (packet_at profile)) profile (packet_in profile octets) inner
-    × (lines ≡ told place word octets (front_rows profile octets) ++ inner ++ told place word octets (closing_rows profile word octets))
+    Encloses place word octets (front_rows profile octets) (TelecommandTold (later place (packet_at profile)) profile (packet_in profile octets))
+    (closing_rows profile word octets) lines
 FieldsTold false place word profile octets lines =
     lines ≡ told place word octets (front_rows profile octets ++ packet_rows profile octets ++ closing_rows profile word octets)
 

@@ -17,6 +17,7 @@ use Rattle.tc_decoded.specs.declared.rows.Fit.TheVariants as fit
 use Rattle.tc_decoded.specs.declared.rows.Word.{Word}
 use Rattle.tc_decoded.specs.declared.rows.Word.TheVariants as words
 use Rattle.tc_decoded.specs.declared.rows.Row.{Row}
+use Rattle.tc_decoded.specs.Added.{Encloses}
 use Rattle.tc_decoded.specs.Places.{later}
 use Rattle.tc_decoded.specs.Rows.{counted, field, plain, told}
 use Rattle.tc_decoded.specs.Tables.{name_rows, offset_rows, packet_check, primary_header, refused, time_rows}
@@ -180,9 +181,8 @@ abbrev pub FieldsTold : Bool → Place → Option Word → Profile → List ℕ 
 FieldsTold false place word profile octets lines =
     lines ≡ told place word octets (headers profile octets ++ data_rows profile octets ++ closing_rows word octets)
 FieldsTold true place word profile octets lines =
-    (activities : List Line) × ActivitiesTold (slice_index octets 11) (later place 12) word profile (inserted octets) activities
-    × (lines ≡ told place word octets (headers profile octets ++ data_rows profile octets) ++ activities
-    ++ told place word octets (closing_rows word octets))
+    Encloses place word octets (headers profile octets ++ data_rows profile octets)
+    (ActivitiesTold (slice_index octets 11) (later place 12) word profile (inserted octets)) (closing_rows word octets) lines
 
 -- What is told of a telecommand packet: its fields, up to the one for which the reader refuses it.
 pub record TelecommandTold (place : Place) (profile : Profile) (octets : List ℕ) (lines : List Line) : Type 0 where

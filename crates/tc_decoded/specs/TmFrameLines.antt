@@ -15,6 +15,7 @@ use Rattle.tc_decoded.specs.declared.rows.Fit.TheVariants as fit
 use Rattle.tc_decoded.specs.declared.rows.Word.{Word}
 use Rattle.tc_decoded.specs.declared.rows.Word.TheVariants as words
 use Rattle.tc_decoded.specs.declared.rows.Row.{Row}
+use Rattle.tc_decoded.specs.Added.{Encloses}
 use Rattle.tc_decoded.specs.Places.{later}
 use Rattle.tc_decoded.specs.ReportLines.{PacketTold}
 use Rattle.tc_decoded.specs.Rows.{counted, field, plain, told}
@@ -133,9 +134,9 @@ FieldsTold place profile octets (Err fault) lines =
     lines ≡ told place (Some (tm_word fault)) octets
     (tm_header_rows profile octets ++ frame_check profile.tm.fecf octets ++ refused (Some (tm_word fault)) names.TransferFrame 0 (length octets))
 FieldsTold place profile octets (Ok frame) lines =
-    (content : List Line) × DataTold (has_packets profile (tm_parts frame)) (later place 6) profile (tm_parts frame) content
-    × (lines ≡ told place None octets (tm_header_rows profile octets) ++ content
-    ++ told place None octets (word_rows frame.word (6 + length frame.«data».now) ++ frame_check profile.tm.fecf octets))
+    Encloses place None octets (tm_header_rows profile octets)
+    (DataTold (has_packets profile (tm_parts frame)) (later place 6) profile (tm_parts frame))
+    (word_rows frame.word (6 + length frame.«data».now) ++ frame_check profile.tm.fecf octets) lines
 
 -- What is told of a telemetry frame: its fields, up to the one for which the reader refuses it, and those of its packets.
 pub record TmFrameTold (place : Place) (profile : Profile) (octets : List ℕ) (lines : List Line) : Type 0 where
