@@ -1,5 +1,5 @@
 -- What is left out is not more urgent than what is shown.
-use Rattle.std.proofs.Common.{◌≡◌, ℕ, zero, suc, ◌≤◌, List, [], ◌∷◌, drop, map, take, subst, sym}
+use Rattle.std.proofs.Common.{ℕ, zero, suc, ◌≤◌, List, [], ◌∷◌, drop, map, take, subst, sym}
 use Rattle.std.specs.List.{AllByRecursion}
 use Rattle.tc_book.specs.Book.{Book}
 use Rattle.tc_urgent.specs.declared.lines.UrgentLine.{UrgentLine}

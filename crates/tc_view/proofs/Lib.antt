@@ -1,4 +1,5 @@
 pub mod GatherLemmas
+pub mod RowLemmas
 pub mod OpenLemmas
 pub mod WayLemmas
 pub mod PageLemmas

@@ -1,7 +1,6 @@
 -- Two walls that show the same have one page, wherever what they show lies.
-use Rattle.std.proofs.Common.{◌≡◌, ◌∙◌, ℕ, zero, suc, Option, Some, None, List, [], ◌∷◌, ◌++◌, codes, drop, length, map, take, refl, ap, subst, sym}
+use Rattle.std.proofs.Common.{◌≡◌, ◌∙◌, ℕ, zero, suc, Option, Some, List, [], ◌∷◌, ◌++◌, codes, drop, length, map, take, refl, ap, subst, sym}
 use Rattle.std.specs.List.{flat_map, fold}
-use Rattle.tc_types.specs.declared.history.moves.Move.{Move}
 use Rattle.tc_types.specs.declared.requests.Request.{Request}
 use Rattle.tc_book.specs.Book.{Book}
 use Rattle.tc_book.specs.Good.{IsGoodBook}

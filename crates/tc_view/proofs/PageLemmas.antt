@@ -1,5 +1,5 @@
 -- The page of a wall that shows a book, a desk or a file.
-use Rattle.std.proofs.Common.{◌≡◌, ◌∙◌, ℕ, List, length, Option, Some, None, Result, Ok, Err, String, ap, subst, sym, refl}
+use Rattle.std.proofs.Common.{◌≡◌, ◌∙◌, ℕ, List, length, Option, Some, None, Result, Ok, Err, String, ap, subst, sym}
 use Rattle.std.specs.Prelude.{IfOk, IsSomeAnd}
 use Rattle.std.specs.String.{string_bytes}
 use Rattle.tc_types.specs.declared.link.frames.Frame.{Frame}

@@ -1,6 +1,6 @@
 -- What a line that is shown says of its request is so.
-use Rattle.std.proofs.Common.{◌≡◌, ℕ, zero, suc, inl, inr, Bool, true, false, if◌then◌else◌, Option, Some, None, List, [], ◌∷◌, ◌++◌, fold, map, take, refl, subst, sym}
-use Rattle.std.specs.Prelude.{IfSome, IsPermutation}
+use Rattle.std.proofs.Common.{ℕ, zero, suc, inl, inr, Bool, true, false, if◌then◌else◌, Option, Some, None, List, [], ◌∷◌, fold, map, take, refl, subst, sym}
+use Rattle.std.specs.Prelude.{IfSome}
 use Rattle.std.specs.List.{AllByRecursion, cons_option, filter_map}
 use Rattle.std.specs.Option.{option_map}
 use Rattle.std.proofs.lemmas.List.Elements.{All-from_recursion, recursion_from_All}
@@ -12,11 +12,10 @@ use Rattle.tc_proc.specs.Logs.{state_of}
 use Rattle.tc_book.specs.Book.{Book}
 use Rattle.tc_urgent.specs.declared.kinds.UrgentKind.{UrgentKind}
 use Rattle.tc_urgent.specs.declared.lines.UrgentLine.{UrgentLine}
-use Rattle.tc_urgent.specs.Folds.{both, folded, joined, takes_in, with_next}
+use Rattle.tc_urgent.specs.Folds.{both, takes_in, with_next}
 use Rattle.tc_urgent.specs.Judging.{kind_of}
 use Rattle.tc_urgent.specs.Laws.{TellsSo}
 use Rattle.tc_urgent.specs.Lines.{execution_line, line_as, lines_of, request_line, request_lines, step_as}
-use Rattle.tc_urgent.specs.Pages.{AreUrgent}
 use Rattle.tc_urgent.proofs.LawLemmas.{told_so}
 use Rattle.tc_wall.specs.declared.walls.TheConstants.{MOST_LINES}
 use Rattle.tc_wall.specs.declared.walls.UrgentRow.{UrgentRow}
@@ -61,7 +60,7 @@ next_so book (line ∷ []) next all so = by (takes_in line next)
   where
     by : (t : Bool) → AllByRecursion (SaysSo book) (if t then both line next ∷ [] else line ∷ next ∷ [])
     by true = (both_so book line next all.0, tt)
-    by false = (all.0, so, tt)
+    by false = (all.0, (so, tt))
 next_so book (line ∷ second ∷ done) next all so = (all.0, next_so book (second ∷ done) next all.1 so)
 
 fold_so : (book : Book) (done lines : List UrgentLine) → AllByRecursion (SaysSo book) done → AllByRecursion (SaysSo book) lines → AllByRecursion (SaysSo book) (fold with_next done lines)

@@ -1,5 +1,5 @@
 -- The lines of a good book have one order by urgency.
-use Rattle.std.proofs.Common.{◌≡◌, ◌∙◌, ℕ, zero, suc, ◌+◌, ◌-◌, ◌<◌, ◌≤◌, ◌==◌, ◌&&◌, ◌⊎◌, inl, inr, Bool, true, false, cond, if◌then◌else◌, Option, Some, None, List, [], ◌∷◌, ◌++◌, length, get_or, refl, ap, ap₂, sym, subst, arith, append_assoc}
+use Rattle.std.proofs.Common.{◌≡◌, ◌∙◌, ℕ, suc, ◌+◌, ◌-◌, ◌<◌, ◌≤◌, ◌==◌, ◌&&◌, ◌⊎◌, inl, inr, Bool, true, false, cond, if◌then◌else◌, Option, Some, None, List, [], ◌∷◌, ◌++◌, length, get_or, refl, ap, ap₂, sym, subst, arith, append_assoc}
 use Rattle.std.specs.Prelude.{IfSome, IsPermutation, nat_lt, sum_by}
 use Rattle.std.specs.List.{AllByRecursion, cons_option, filter_map, slice_get}
 use Rattle.std.specs.Option.{option_and_then, option_map}
@@ -23,7 +23,7 @@ use Rattle.tc_book.specs.Waiting.{is_locked}
 use Rattle.tc_urgent.specs.declared.kinds.UrgentKind.{UrgentKind}
 use Rattle.tc_urgent.specs.declared.kinds.UrgentKind.TheVariants.{FailedSince, Flying, Free, Locked, LockedForever, LostReport}
 use Rattle.tc_urgent.specs.declared.lines.UrgentLine.{UrgentLine}
-use Rattle.tc_urgent.specs.Judging.{insert_of, is_locked_forever, is_scheduled, kind_approved, kind_at, kind_of, kind_unlocked, since}
+use Rattle.tc_urgent.specs.Judging.{insert_of, is_locked_forever, is_scheduled, kind_at, kind_of, kind_unlocked, since}
 use Rattle.tc_urgent.specs.Kinds.{urgency}
 use Rattle.tc_urgent.specs.Laws.{AreByUrgency}
 use Rattle.tc_urgent.specs.Lines.{execution_line, line_as, lines_of, request_line, request_lines, step_as}
@@ -119,7 +119,7 @@ by_key : (y x : UrgentLine) (xs : List UrgentLine) (u n : ℕ) → IsBefore y x 
 unfolding IsBefore tells has
 by_key y x xs u n first some rest = by_first (urgency x.kind == u) refl (x.number == n) refl
   where
-    later : cond (urgency x.kind == u && x.number == n) 1 0 ≡ 0 → NoLater (urgency y.kind) y.number u n
+    later : tells u n x ≡ 0 → NoLater (urgency y.kind) y.number u n
     later none = rest (omega (arith, some, count-cons u n x xs, none))
 
     by_first : (s : Bool) → (urgency x.kind == u) ≡ s → (t : Bool) → (x.number == n) ≡ t → NoLater (urgency y.kind) y.number u n

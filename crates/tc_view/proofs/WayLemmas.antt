@@ -1,5 +1,5 @@
 -- The ways of requests, one after the other.
-use Rattle.std.proofs.Common.{◌≡◌, ◌∙◌, ℕ, List, [], ◌∷◌, ◌++◌, refl, ap, sym, subst}
+use Rattle.std.proofs.Common.{◌≡◌, List, [], ◌∷◌, ◌++◌, refl, ap}
 use Rattle.tc_types.specs.declared.requests.Request.{Request}
 use Rattle.tc_book.specs.Book.{Book}
 use Rattle.tc_wall.specs.declared.walls.Way.{Way}

@@ -1,7 +1,7 @@
 -- What is open, most urgent first, each line with what the board says beside it.
-use Rattle.std.specs.Prelude.{◌≡◌, ◌⊎◌, ℕ, ◌==◌, ◌&&◌, ◌||◌, Bool, false, count_by, drop, if◌then◌else◌, is_none, is_some, Option, Some, None, List, [], ◌∷◌, map}
-use Rattle.std.specs.List.{filter_map, find}
-use Rattle.std.specs.Option.{option_and_then, option_map, option_map_or}
+use Rattle.std.specs.Prelude.{◌≡◌, ◌⊎◌, ℕ, ◌==◌, ◌&&◌, Bool, false, count_by, if◌then◌else◌, is_none, is_some, Option, Some, None, List, [], ◌∷◌, map}
+use Rattle.std.specs.List.{find}
+use Rattle.std.specs.Option.{option_map, option_map_or}
 use Rattle.tc_types.specs.declared.history.places.Place.TheVariants.{Scheduled}
 use Rattle.tc_types.specs.declared.link.activities.ListedActivity.{ListedActivity}
 use Rattle.tc_types.specs.declared.requests.Request.{Request}
@@ -11,7 +11,6 @@ use Rattle.tc_types.specs.declared.waits.Waiting.TheVariants as waiting
 use Rattle.tc_types.specs.Names.{is_same_name}
 use Rattle.tc_book.specs.Book.{Book, request_at}
 use Rattle.tc_book.specs.Waiting.{standing_past, waiting_of}
-use Rattle.tc_urgent.specs.declared.kinds.UrgentKind.{UrgentKind}
 use Rattle.tc_urgent.specs.declared.kinds.UrgentKind.TheVariants.{Approval, StepDue}
 use Rattle.tc_urgent.specs.declared.lines.UrgentLine.{UrgentLine}
 use Rattle.tc_urgent.specs.Kinds.{urgency}

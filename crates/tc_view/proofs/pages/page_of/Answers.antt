@@ -3,8 +3,6 @@ use Rattle.std.proofs.Common.{rules, ◌≡◌, ◌∙◌, true, drop, length, m
 use Rattle.std.specs.Prelude.{vec_len}
 use Rattle.std.specs.List.{AllByRecursion}
 use Rattle.tc_urgent.specs.Folds.{folded}
-use Rattle.tc_urgent.specs.declared.kinds.UrgentKind.TheVariants.{FailedSince}
-use Rattle.tc_urgent.specs.Kinds.{urgency}
 use Rattle.tc_wall.specs.declared.walls.TheConstants.{MOST_LINES, MOST_OPEN}
 use Rattle.tc_view.specs.Gathered.{AreTrailsOf, IsNumbered, IsOpenOf}
 use Rattle.tc_view.specs.Urgents.{count_of, counts_of, row_of}

@@ -1,5 +1,5 @@
 -- One more.
-use Rattle.std.proofs.Common.{rules, ◌≡◌, ◌∙◌, ◌<◌, ◌+◌, ◌++◌, ◌∷◌, [], length, take, ap, sym, arith}
+use Rattle.std.proofs.Common.{rules, ◌≡◌, ◌∙◌, ◌<◌, ◌+◌, ◌++◌, ◌∷◌, [], length, take, ap, sym}
 use Rattle.std.proofs.lemmas.List.{take_more}
 use Rattle.tc_view.proofs.WayLemmas.{trails_more}
 use Rattle.tc_view.proofs.trails.trails_of.Goals as goal

@@ -1,8 +1,7 @@
 -- One more.
-use Rattle.std.proofs.Common.{rules, ◌≡◌, ◌∙◌, ◌<◌, ◌+◌, ◌++◌, ◌∷◌, [], length, take, ap, sym, subst, arith}
+use Rattle.std.proofs.Common.{rules, ◌≡◌, ◌∙◌, ◌<◌, ◌+◌, ◌++◌, ◌∷◌, [], length, take, ap, sym, subst}
 use Rattle.std.proofs.lemmas.List.{take_more}
 use Rattle.tc_view.specs.Gathered.{AreTrailsOf}
-use Rattle.tc_view.specs.Ways.{AreWaysOf}
 use Rattle.tc_view.proofs.WayLemmas.{none_are, trails_end, ways_more}
 use Rattle.tc_view.proofs.trails.ways_of.Goals as goal
 
