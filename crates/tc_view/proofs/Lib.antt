@@ -5,5 +5,6 @@ pub mod WayLemmas
 pub mod PageLemmas
 pub mod UniqueLemmas
 pub mod LeftLemmas
+pub mod EachLemmas
 pub mod SoLemmas
 pub mod OneLemmas

@@ -181,7 +181,7 @@ found_there : {X : Type 0} (before : List X) (x : X) (xs : List X) → slice_get
 found_there [] x xs = refl
 found_there (y ∷ before) x xs = found_there before x xs
 
-all_found : {X : Type 0} (Good : List X → X → Type 0) (number : X → ℕ) → ((before : List X) (x : X) → Good before x → number x ≡ length before + 1) → (before xs : List X) → AllAfter Good before xs
+pub all_found : {X : Type 0} (Good : List X → X → Type 0) (number : X → ℕ) → ((before : List X) (x : X) → Good before x → number x ≡ length before + 1) → (before xs : List X) → AllAfter Good before xs
     → AllByRecursion (λ x. (if number x == 0 then None else slice_get (before ++ xs) (number x - 1)) ≡ Some x) xs
 all_found Good number next before [] all = tt
 all_found {X} Good number next before (x ∷ xs) all =
