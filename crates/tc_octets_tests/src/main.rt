@@ -11,8 +11,7 @@ mod packets;
 use frames::{cltu_again, frame_again, request_again, tm_again};
 use packets::{carriers_again, report_again, space_again, telecommand_again};
 use std::alloc::{AllocError, Global};
-use std::io::{self, BufReader, BufWriter, Write};
-use tc_hex::octets_in;
+use std::io::{self, BufRead, BufReader, BufWriter, Write};
 use tc_octets::{Profile, read_profile};
 
 /// Returns the octets of a layer, written again. `None` if the reader refuses them.
@@ -65,7 +64,7 @@ fn answer_line(alloc: Global, profile: &mut Profile, line: &str) -> Result<Strin
     let Some((layer, text)) = line.split_once(' ') else {
         return String::from_str(alloc, "refused\n");
     };
-    let Ok(octets) = octets_in(alloc, text.as_bytes()) else {
+    let Ok(octets) = hex::decode(alloc, text) else {
         return String::from_str(alloc, "refused\n");
     };
     let told = if layer == "profile" {
