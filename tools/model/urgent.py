@@ -1,6 +1,6 @@
 """What is open at the desk, most urgent first, in pages. It is written from the requirements, and asks the program nothing.
 """
-from typing import AbstractSet, NamedTuple, Optional
+from typing import AbstractSet, Mapping, NamedTuple, Optional
 
 from model.book import Book
 from model.facts import MOST_SHOWN, Place
@@ -64,26 +64,30 @@ def never_opens(book: Book, number: int) -> bool:
     return False
 
 
-def insert_of(book: Book, number: int) -> int:
-    """The first insert that has not ended and names a request; 0 if there is none."""
-    return next((it.number for it in book.requests if number in it.form.activities() and book.place(it.number) not in ENDED), 0)
+def inserts_of(book: Book) -> dict[int, int]:
+    """Of each request that an insert names which has not ended, the first such insert."""
+    found: dict[int, int] = {}
+    for it in book.requests:
+        for number in it.form.activities() if book.place(it.number) not in ENDED else ():
+            found.setdefault(number, it.number)
+    return found
 
 
-def approved_kind(book: Book, it: Request) -> tuple[int, int]:
+def approved_kind(book: Book, it: Request, inserts: Mapping[int, int]) -> tuple[int, int]:
     """The kind of a request that waits for its release, and its insert."""
     if any(never_opens(book, number) for number in (it.number, *it.form.activities())):
         return FOR_EVER, 0
-    insert = insert_of(book, it.number)
+    insert = inserts.get(it.number, 0)
     if insert:
         return ACTIVITY, insert
     return (LOCKED if lock_of(book, it) else FREE), 0
 
 
-def kind_of(book: Book, it: Request, last: Move, stood: int, scheduled: AbstractSet[int]) -> tuple[int, int]:
+def kind_of(book: Book, it: Request, last: Move, stood: int, scheduled: AbstractSet[int], inserts: Mapping[int, int]) -> tuple[int, int]:
     """The kind of a request, and its insert; kind 0 if it has no line."""
     place = book.place(it.number)
     if place is Place.APPROVED:
-        return approved_kind(book, it)
+        return approved_kind(book, it, inserts)
     if place is Place.SCHEDULED:
         return (FLYING if it.number in scheduled else LOST), 0
     if place is Place.FAILED:
@@ -96,10 +100,10 @@ def kind_of(book: Book, it: Request, last: Move, stood: int, scheduled: Abstract
 
 def lines_of(book: Book, stood: int, scheduled: AbstractSet[int]) -> list[Line]:
     """All lines by urgency, those of one kind by number; `stood` moves stood at the opening, and the mirror has the requests `scheduled`."""
-    made = []
+    made, inserts = [], inserts_of(book)
     for it in book.requests:
         last = book.last[it.number - 1]
-        kind, insert = kind_of(book, it, last, stood, scheduled)
+        kind, insert = kind_of(book, it, last, stood, scheduled, inserts)
         if kind:
             on_board = f"{it.identity} tc {it.form.service} {it.form.subtype}"
             waited = max(book.history[-1].moment - last.moment, 0)
