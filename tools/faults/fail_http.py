@@ -355,11 +355,16 @@ def refused_port(runs: Runs, name: str, port: int, error: int) -> Ended:
     return Ended(done.returncode, done.stdout.decode("ascii"), done.stderr.decode("ascii"))
 
 
+def desks_in(folder: str) -> dict[str, bytes]:
+    """The bytes of each desk's file in a folder, and of its log."""
+    return {it: bytes_of(f"{folder}/{it}") for it in os.listdir(folder) if ".db" in it}
+
+
 def looks(runs: Runs) -> None:
     """At a port in use, a file on which the system does not report is told as one that cannot be used, and is left; only where it says that none is there is one made,
     and removed."""
     made_shim("fail_looks", runs.folder)
-    whole = bytes_of(f"{runs.folder}/left.db")
+    stood = desks_in(runs.folder)
     no_file, no_port = "tcdesk: cannot use {}\n", "tcdesk: cannot use port {}\n"
     cases = [(errno.EIO, "left.db", no_file), (errno.EACCES, "left.db", no_file + "tcdesk: because there is no permission for it\n"), (0, "left.db", no_port),
              (0, "none.db", no_port)]
@@ -370,9 +375,9 @@ def looks(runs: Runs) -> None:
         for error, name, says in cases:
             runs.counts["looks"] += 1
             ended = refused_port(runs, name, port, error)
-            left = sorted(it for it in os.listdir(runs.folder) if it.startswith((name, "left.db")))
-            if ended != Ended(2, "", says.format(name if says != no_port else port)) or left != ["left.db"] or bytes_of(f"{runs.folder}/left.db") != whole:
-                runs.bad(f"a port in use, and the error {error} of {name}", ended, left)
+            left = desks_in(runs.folder)
+            if ended != Ended(2, "", says.format(name if says != no_port else port)) or left != stood:
+                runs.bad(f"a port in use, and the error {error} of {name}", ended, sorted(left))
 
 
 class HttpFaults(unittest.TestCase):
