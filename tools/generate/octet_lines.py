@@ -5,6 +5,7 @@ Each has random octets of a layer, as the plain writers of tools/model make them
 same lines. Every ninth line sets a random profile for the eight after it, one of each layer.
 """
 import sys
+from binascii import crc_hqx
 from collections.abc import Callable, Iterator
 from functools import cache
 from pathlib import Path
@@ -28,7 +29,9 @@ def table(width: int, generator: int) -> list[int]:
 
 
 def quick_remainder(octets: bytes, width: int, generator: int, register: int) -> int:
-    """Returns what the plain code leaves of octets, by its table, an octet at a time."""
+    """Returns what the plain code leaves of octets: by Python's own CRC, or by the plain code's table, an octet at a time."""
+    if (width, generator) == (16, 0x1021):
+        return crc_hqx(octets, register)
     left, shift = table(width, generator), width - 8
     for octet in octets:
         first = register >> shift if shift >= 0 else register << -shift
