@@ -356,8 +356,8 @@ def refused_port(runs: Runs, name: str, port: int, error: int) -> Ended:
 
 
 def desks_in(folder: str) -> dict[str, bytes]:
-    """The bytes of each desk's file in a folder, and of its log."""
-    return {it: bytes_of(f"{folder}/{it}") for it in os.listdir(folder) if ".db" in it}
+    """The bytes of each desk's file in a folder; and which logs stand beside them, of which a look may write one that holds nothing."""
+    return {it: bytes_of(f"{folder}/{it}") if it.endswith(".db") else b"" for it in os.listdir(folder) if ".db" in it}
 
 
 def looks(runs: Runs) -> None:
