@@ -237,7 +237,7 @@ class Words(unittest.TestCase):
         dice = random.Random(5)
         methods, lengths = ("GET", "POST", "PUT", "HEAD", "get"), ("0", "5", "05", "65536", "65537", "99999999999", "-1", "")
         paths = ("/places", "/acts", "/stacks", "/procedures", "/procedures/x", "/procedures/X", "/requests/1", "/requests/01", "/requests/4294967296", "/history/1/2",
-                 "/history/1", "/report/0/4102444799", "/report/0/4102444800", "/waiting", "/moves/0", "/board", "/", "//places", "/moves/x")
+                 "/history/1", "/report/0/4102444799", "/report/0/4102444800", "/waiting", "/moves/0", "/urgent/1", "/board", "/", "//places", "/moves/x")
         hosts = [b"127.0.0.1", b"LocalHost:8080", b"10.0.0.1:8080", b"10.0.0.1:8081", b"evil.example", b"", b"10.0.0.10"]
         doors = {b"Host": hosts, b"oRIGIN": [b"null", b"", b"HTTP://127.0.0.1", b"http://", *(it + host for it in (b"http://", b"https://", b"ftp://") for host in hosts)],
                  b"Sec-Fetch-Site": [b"same-origin", b"none", b"same-site", b"cross-site", b"None", b""]}

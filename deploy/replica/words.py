@@ -16,7 +16,7 @@ NAME = re.compile("[a-z0-9]{1,16}")
 POSTS = {"/acts": ("act", "by"), "/stacks": ("by", "csv", "name"), "/procedures": ("by", "csv", "name")}
 QUESTIONS = [(re.compile(f"/{path}"), last) for path, last in (
     ("places", 0), ("waiting", 0), ("board", 0), ("requests/([^/]+)", LAST_NUMBER), ("history/([^/]+)/([^/]+)", LAST_NUMBER), ("moves/([^/]+)", LAST_NUMBER),
-    ("report/([^/]+)/([^/]+)", LAST_MOMENT), ("procedures/([^/]+)", 0))]
+    ("urgent/([^/]+)", LAST_NUMBER), ("report/([^/]+)/([^/]+)", LAST_MOMENT), ("procedures/([^/]+)", 0))]
 
 
 class Answer(NamedTuple):
