@@ -1,4 +1,9 @@
 //! The table `meta`: the version of the schema.
+ghost use Rattle.sqlite.specs.Held.{state};
+ghost use Rattle.sqlite.specs.State.{HasCleanDisk};
+ghost use Rattle.tc_store.specs.Schema.{HoldsAs};
+ghost use Rattle.tc_store.specs.Ledgers.{Ledger};
+ghost use Rattle.tc_store.specs.ReadsBack.{ReadsBack};
 ghost use Rattle.std.specs.Prelude.{◌≡◌, pos, true, codes, length, [], ◌∷◌, IfOk};
 ghost use Rattle.std.specs.List.{AllByRecursion};
 ghost use Rattle.sqlite_value.specs.declared.value.Value.TheVariants.{Int, Text};
@@ -57,6 +62,7 @@ pub(crate) fn check_version<S: Alter>(
     version: Version,
 ) -> Result<(), ReadFault>
     ensures reads { Reads S.Store (λ db _. (layout : SomeLayout) (of : SomeVersion) → db.schema ≡ schema_of layout of → ShowsRows (db.trees meta_tree) all_version_columns (version_shown version ∷ [])) conn.old conn.new result }
+    ensures back { HasCleanDisk (state S.Store conn.new) → (ledger : Ledger) → HoldsAs version (state S.Store conn.old).now ledger → ReadsBack result }
 {
     let rows = rows_of(conn, ALL, &[])?;
     if are_version(rows.as_slice(), version)? {
