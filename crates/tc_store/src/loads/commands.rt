@@ -48,7 +48,7 @@ fn plain_of(service: u32, subtype: u32, target: u32, time: i64) -> Option<Comman
 fn bare_of(subtype: u32) -> Option<Command>
     ensures shows { IfSome result (ShowsCommand 11 subtype 0 (pos 0)) }
     ensures told { IfSome result IsToldCommand }
-    ensures all { (c : SomeCommand) → IsToldCommand c → ShowsCommand 11 subtype 0 (pos 0) c → IsSome result }
+    ensures all { subtype ≢ 4 → subtype ≢ 5 → subtype ≢ 7 → subtype ≢ 15 → (c : SomeCommand) → IsToldCommand c → ShowsCommand 11 subtype 0 (pos 0) c → IsSome result }
 {
     match subtype {
         1 => Some(Command::EnableSchedule),

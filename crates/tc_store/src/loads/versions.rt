@@ -3,7 +3,7 @@ ghost use Rattle.sqlite.specs.Held.{state};
 ghost use Rattle.sqlite.specs.State.{HasCleanDisk};
 ghost use Rattle.tc_store.specs.Schema.{HoldsAs};
 ghost use Rattle.tc_store.specs.Ledgers.{Ledger};
-ghost use Rattle.tc_store.specs.ReadsBack.{ReadsBack};
+ghost use Rattle.tc_store.specs.ReadsBack.{OnlyMemory, ReadsBack};
 ghost use Rattle.std.specs.Prelude.{◌≡◌, pos, true, codes, length, [], ◌∷◌, IfOk};
 ghost use Rattle.std.specs.List.{AllByRecursion};
 ghost use Rattle.sqlite_value.specs.declared.value.Value.TheVariants.{Int, Text};
@@ -39,6 +39,8 @@ fn version_number(version: Version) -> u32
 /// Whether a row names this version of the schema.
 fn is_version(row: &Row, version: Version) -> Result<bool, ReadFault>
     ensures told { IfOk result (λ told. told ≡ true → (column row.now 0 ≡ Text (codes "schema")) × (column row.now 1 ≡ Int (pos (version_number version)))) }
+    ensures found { row.now ≡ version_shown version → IfOk result (λ told. told ≡ true) }
+    ensures back { row.now ≡ version_shown version → OnlyMemory result }
 {
     let name = text_at(row, 0)?;
     let number = number_at(row, 1)?;
@@ -48,6 +50,8 @@ fn is_version(row: &Row, version: Version) -> Result<bool, ReadFault>
 /// Whether these rows are the one that names this version of the schema.
 fn are_version(rows: &[Row], version: Version) -> Result<bool, ReadFault>
     ensures told { IfOk result (λ told. told ≡ true → AllByRecursion (λ (row : Values). length row ≡ 2) rows.now → rows.now ≡ version_shown version ∷ []) }
+    ensures found { rows.now ≡ version_shown version ∷ [] → IfOk result (λ told. told ≡ true) }
+    ensures back { rows.now ≡ version_shown version ∷ [] → OnlyMemory result }
 {
     let is_one = rows.len() == 1;
     if is_one {
