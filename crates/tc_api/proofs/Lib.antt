@@ -1,7 +1,7 @@
 mod ExchangeLemmas
 pub mod KeptLemmas
 mod LineLemmas
-mod OnceLemmas
+pub mod OnceLemmas
 mod OneLemmas
 mod OpeningLemmas
 mod ResponseLemmas

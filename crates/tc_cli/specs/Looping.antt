@@ -4,6 +4,7 @@ use Rattle.std.proofs.Common.{subst}
 use Rattle.sqlite_trees.specs.declared.store.Store.{Ghosts}
 use Rattle.tc_front.specs.Front.{Asked}
 use Rattle.tc_room.specs.Joined.{Standing}
+use Rattle.tc_api.specs.Each.{CallsOnce}
 use Rattle.tc_api.specs.Kept.{KeepsRoom, ServesAll}
 
 -- A room came to another by exchanges, one after the other.
@@ -12,11 +13,12 @@ pub record ServesSome {S : Type 0} (g : Ghosts S) (old new : Standing S) : Type 
   pub serves : ServesAll g old reads new
 
 -- A loop's exchanges, and what they leave of the room: the promise is kept, and tables that held the book hold it, with each reply that was
--- kept, until the database failed.
+-- kept, until the database failed. Calls are done once.
 pub record ServesLoop {S : Type 0} (g : Ghosts S) (start end : Standing S) : Type 0 where
   pub reads : List (Option Asked)
   pub serves : ServesAll g start reads end
   pub keeps : KeepsRoom g start reads end
+  pub once : CallsOnce g start reads
 
 -- The laws that a client cites.
 

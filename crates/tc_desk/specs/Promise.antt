@@ -1,4 +1,4 @@
--- What is true of a desk at any moment. The first promise of README.md is the fields `places`, `moves` and `once` of `KeepsPromise`.
+-- What is true of a desk at any moment. The first promise of README.md is the fields `places`, `moves`, `once` and `given` of `KeepsPromise`.
 use Rattle.std.specs.Prelude.{◌≡◌, ℕ, true, false, map}
 use Rattle.std.specs.List.{AllByRecursion}
 use Rattle.tc_types.specs.declared.link.reports.Report.{Report}

@@ -34,7 +34,7 @@ pub record ActsTrue {S : Type 0} (given : Act) (said : List LinkIndication) (old
   pub whole : KeepsWhole either given (desk_in old) (desk_in new) said
   pub summary : (s : ScheduleState) → IsSchedule s.activities → came_down said ≡ report.Telemetry (telemetry.Summary (summary_of s)) ∷ [] → new.desk.mirror ≡ mirror_of s
 
--- An act was carried out, and the reply tells what was said of the link; or the database failed at it, and the reply tells that.
+-- An act was carried out. The reply tells what was said of the link, or, if the database failed at the act, that it failed.
 pub record CarriesOut {S : Type 0} (given : Act) (reply : Reply) (old new : Standing S) : Type 0 where
   pub first : FirstLine
   pub said : List LinkIndication

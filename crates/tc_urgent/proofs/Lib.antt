@@ -5,4 +5,5 @@ pub mod FoldLemmas
 pub mod NeverLemmas
 pub mod RankLemmas
 pub mod OneLine
+pub mod SilentLemmas
 mod SortLemmas

@@ -3,7 +3,7 @@ use Rattle.std.specs.Prelude.{◌≡◌, ℕ, ◌-◌, ◌==◌, ◌&&◌, ◌||
 use Rattle.std.specs.List.{filter_map, find, list_any}
 use Rattle.std.specs.Option.{option_and_then, option_map, option_map_or}
 use Rattle.tc_types.specs.declared.history.places.Place.{Place}
-use Rattle.tc_types.specs.declared.history.places.Place.TheVariants.{Entered, Approved, Queued, Sent, Confirmed, Riding, Scheduled, Accepted, Started, Failed, Doubtful, Withdrawn, Deleted, Closed}
+use Rattle.tc_types.specs.declared.history.places.Place.TheVariants.{Entered, Approved, Queued, Sent, Confirmed, Riding, Scheduled, Accepted, Started, Completed, Failed, Doubtful, Withdrawn, Deleted, Closed}
 use Rattle.tc_types.specs.declared.history.moves.Move.{Move}
 use Rattle.tc_types.specs.declared.requests.Request.{Request}
 use Rattle.tc_types.specs.declared.requests.Origin.{Origin}
@@ -43,6 +43,10 @@ waited history n = latest history - (last_move history n).moment
 pub record AreLastMoves (history : List Move) (count : ℕ) (last : List LastMove) : Type 0 where
   pub all : length last ≡ count
   pub each : (k : ℕ) → k < count → slice_index_or last k unmoved ≡ last_move history (k + 1)
+
+-- a request that stands here has no line, whenever it came there
+abbrev pub silent_places : List Place
+silent_places = Completed ∷ Withdrawn ∷ Deleted ∷ Closed ∷ []
 
 -- ---- locks that never open
 

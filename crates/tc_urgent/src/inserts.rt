@@ -3,8 +3,10 @@ ghost use Rattle.std.specs.Prelude.{◌≡◌, ◌++◌, [], IfOk, OnOk};
 ghost use Rattle.std.specs.List.{cons_option, find};
 ghost use Rattle.std.specs.Option.{option_and_then, option_copied};
 ghost use Rattle.tc_book.specs.Book.{request_at};
+ghost use Rattle.tc_book.specs.Good.{IsGoodBook};
 ghost use Rattle.tc_urgent.specs.Judging.{names, open_insert, open_inserts};
 
+use crate::judging::is_final;
 use std::alloc::{AllocError, Allocator};
 use tc_book::{FINAL_PLACES, Records};
 use tc_types::Request;
@@ -24,8 +26,12 @@ pub(crate) fn add_one<T: Copy, A: Allocator>(
 
 /// Request `n`, if it is an insert that has not ended.
 fn open_insert<A: Allocator + Copy + Drop>(book: &Records<A>, n: u32) -> Option<Request>
+    requires { IsGoodBook book.now.book }
     ensures { result ≡ option_and_then (open_insert book.now.book) (request_at book.now.book n) }
 {
+    if is_final(book.place_of(n)) {
+        return None;
+    }
     let request = book.request(n)?;
     if request.body.command.is_insert() && !book.stands(request.number.get(), &FINAL_PLACES) {
         Some(request)
@@ -41,6 +47,8 @@ pub(crate) fn open_inserts<A: Allocator + Copy + Drop>(
 ) -> Result<Vec<Request, A>, AllocError>
     ensures { IfOk result (λ inserts. inserts.items ≡ open_inserts book.now.book) }
 {
+    // read for the proof alone: the book is good
+    let _mark = book.mark();
     let mut inserts = Vec::new(alloc);
     for at in 0..book.count() {
         add_one(&mut inserts, open_insert(book, at + 1))?;

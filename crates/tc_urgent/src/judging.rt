@@ -1,6 +1,7 @@
 //! Which kind of line a request has.
 ghost use Rattle.std.specs.Prelude.{◌≡◌};
-ghost use Rattle.tc_urgent.specs.Judging.{is_scheduled, kind_approved, kind_of, open_inserts, since};
+ghost use Rattle.tc_urgent.specs.Judging.{is_scheduled, kind_approved, kind_of, open_inserts, silent_places, since};
+ghost use Rattle.tc_types.specs.Lawful.{final_places, is_among};
 
 use crate::inserts;
 use crate::kinds::UrgentKind;
@@ -8,6 +9,28 @@ use crate::locks::{is_locked, is_locked_forever};
 use std::alloc::Allocator;
 use tc_book::Records;
 use tc_types::{Place, Request};
+
+/// Whether a request that stands here has ended.
+pub(crate) fn is_final(place: Option<Place>) -> bool
+    ensures { result ≡ is_among final_places place }
+{
+    match place {
+        Some(
+            Place::Completed | Place::Failed | Place::Withdrawn | Place::Deleted | Place::Closed,
+        ) => true,
+        _ => false,
+    }
+}
+
+/// Whether a request that stands here has no line, whenever it came there.
+pub(crate) fn is_silent(place: Option<Place>) -> bool
+    ensures { result ≡ is_among silent_places place }
+{
+    match place {
+        Some(Place::Completed | Place::Withdrawn | Place::Deleted | Place::Closed) => true,
+        _ => false,
+    }
+}
 
 /// The kind of a request that waits for its release.
 fn kind_approved<A: Allocator + Copy + Drop>(

@@ -1,10 +1,10 @@
 //! All lines of the board, most urgent first.
-ghost use Rattle.std.specs.Prelude.{◌≡◌, ◌++◌, [], IfOk, OnOk, IsPermutation};
+ghost use Rattle.std.specs.Prelude.{◌≡◌, ◌++◌, [], IfOk, OnOk, IsPermutation, length};
 ghost use Rattle.std.specs.List.{cons_option, filter_map};
 ghost use Rattle.std.specs.Option.{option_and_then};
 ghost use Rattle.tc_proc.specs.Logs.{execution_at};
-ghost use Rattle.tc_types.specs.Limits.{most_requests};
 ghost use Rattle.tc_book.specs.Book.{request_at};
+ghost use Rattle.tc_book.specs.Good.{IsGoodBook};
 ghost use Rattle.tc_urgent.specs.Kinds.{urgency};
 ghost use Rattle.tc_urgent.specs.Judging.{AreLastMoves, latest as latest_of, open_inserts};
 ghost use Rattle.tc_urgent.specs.Laws.{AreByUrgency};
@@ -13,13 +13,13 @@ ghost use Rattle.tc_urgent.specs.Pages.{AreUrgent};
 
 use crate::folds::folded;
 use crate::inserts::{add_one, open_inserts};
-use crate::judging::kind_of;
+use crate::judging::{is_silent, kind_of};
 use crate::kinds::UrgentKind;
 use crate::lines::{UrgentLine, line_as};
 use crate::moves::{LastMove, last_moves, latest};
 use std::alloc::{AllocError, Allocator};
 use tc_book::Records;
-use tc_types::{MOST_REQUESTS, Request};
+use tc_types::Request;
 
 /// What the lines need beside the book: how many moves stood at the opening, which requests the
 /// mirror has on board, the open inserts, the last move of each request, and the moment of the
@@ -40,10 +40,14 @@ fn request_line<A: Allocator + Copy + Drop>(
     n: u32,
 ) -> Option<UrgentLine>
     requires inserts { given.now.inserts.now ≡ open_inserts book.now.book }
-    requires last { AreLastMoves book.now.book.history most_requests given.now.last.now }
+    requires last { AreLastMoves book.now.book.history (length book.now.book.requests) given.now.last.now }
     requires latest { given.now.latest ≡ latest_of book.now.book.history }
+    requires good { IsGoodBook book.now.book }
     ensures { result ≡ option_and_then (request_line book.now.book given.now.opened given.now.scheduled.now) (request_at book.now.book n) }
 {
+    if is_silent(book.place_of(n)) {
+        return None;
+    }
     let request = book.request(n)?;
     let last = &given.last[request.number.get() as usize - 1];
     let kind = kind_of(
@@ -83,8 +87,9 @@ fn add_requests<A: Allocator + Copy + Drop>(
     lines: &mut Vec<UrgentLine, A>,
 ) -> Result<(), AllocError>
     requires inserts { given.now.inserts.now ≡ open_inserts book.now.book }
-    requires last { AreLastMoves book.now.book.history most_requests given.now.last.now }
+    requires last { AreLastMoves book.now.book.history (length book.now.book.requests) given.now.last.now }
     requires latest { given.now.latest ≡ latest_of book.now.book.history }
+    requires good { IsGoodBook book.now.book }
     ensures { OnOk result (lines.new.items ≡ lines.old.items ++ request_lines book.now.book given.now.opened given.now.scheduled.now) }
 {
     for at in 0..book.count() {
@@ -115,8 +120,10 @@ fn lines_of<A: Allocator + Copy + Drop>(
 ) -> Result<Vec<UrgentLine, A>, AllocError>
     ensures { IfOk result (λ lines. lines.items ≡ lines_of book.now.book opened scheduled.now) }
 {
+    // read for the proof alone: the book is good
+    let _mark = book.mark();
     let inserts = open_inserts(alloc, book)?;
-    let last = last_moves(alloc, book.rows(), MOST_REQUESTS as usize)?;
+    let last = last_moves(alloc, book.rows(), book.count() as usize)?;
     let given = Given {
         opened,
         scheduled,
