@@ -25,6 +25,7 @@ ENTRIES = (
     Entry("edits", "whether the prover refuses the edits of crates/NAME/wrong/ that tools/edits.tried does not have",
           command=("edits/edits.py", "--few", "9", "--cores", HALF), needs="rt"),
     Entry("types", "whether the types in all signatures of tools/ fit, by mypy", modules=("tests.test_types",), needs="mypy, or that is not tried"),
+    Entry("pages", "whether each page keeps its limits of words and of hard sentences, and each link leads somewhere", modules=("tests.test_pages",)),
     Entry("notice", "whether NOTICE lists all parts of the toolchain that the program links, with the licences that these state",
           modules=("tests.test_notice",), needs="rt, or that is not tried"),
     Entry("bare", "README.md's first command and a server, in a root of glibc, bash and coreutils alone", command=("tests/bare_cases.sh", "PROGRAM"),
