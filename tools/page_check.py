@@ -190,10 +190,12 @@ def lowered(line: str, limits: list[Limit]) -> str:
     page, words, *most = line.split()
     if not os.path.exists(f"{TOP}/{page}"):
         return ""
-    counts = counts_of(text_of(page))
-    if not list(count_faults(page, counts, [it for it in limits if not it.kinds])):
+    counts, others = counts_of(text_of(page)), [it for it in limits if not it.kinds]
+    if not list(count_faults(page, counts, others)):
         return ""
-    figures = [min(int(limit), count) for limit, count in zip([words, *most], [counts.words, *counts.kinds])]
+    other = limit_of(page, others)
+    figures = [min(int(words), max(counts.words, other.words if other else 0))]
+    figures += [min(int(limit), count) for limit, count in zip(most, counts.kinds)]
     return " ".join(map(str, [page, *figures])) + "\n"
 
 
