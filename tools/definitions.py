@@ -19,8 +19,8 @@ from typing import Iterator, NamedTuple
 
 TOP = os.path.dirname(os.path.dirname(os.path.realpath(__file__)))
 DEFINITION = re.compile(r"(?:(?:abbrev|unfoldable) (?:pub )?|(?:pub )?(?:record|data) )([^\s:{(]+)")
-ITEM = re.compile(r"\s*(?:pub )?(fn|struct|enum|trait) (\w+)")
-OWNER = re.compile(r"(?:impl(?:<.*?>)? (?:.* for )?|(?:pub )?trait )(\w+)")
+ITEM = re.compile(r"\s*(?:pub(?:\(crate\))? )?(fn|struct|enum|trait) (\w+)")
+OWNER = re.compile(r"(?:impl(?:<.*?>)? (?:.* for )?|(?:pub(?:\(crate\))? )?trait )(\w+)")
 
 
 class Found(NamedTuple):
@@ -63,7 +63,7 @@ def items_in(file: str, lines: list[str]) -> Iterator[Found]:
     """The functions and types of a file of src/: the text of a function is its head with all clauses."""
     owner = ""
     for at, line in enumerate(lines):
-        if line[:1].strip():
+        if line[:1].isalpha():
             starts = OWNER.match(line)
             owner = f"{starts[1]}::" if starts else ""
         begins = ITEM.match(line)
