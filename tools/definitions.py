@@ -18,7 +18,7 @@ from collections import Counter
 from typing import Iterator, NamedTuple
 
 TOP = os.path.dirname(os.path.dirname(os.path.realpath(__file__)))
-DEFINITION = re.compile(r"(?:(?:abbrev|unfoldable) (?:pub )?|(?:pub )?(?:record|data) )([^\s:{(]+)")
+DEFINITION = re.compile(r"(?:\s*(?:abbrev|unfoldable) pub |\s*pub (?:record|data) |(?:abbrev|unfoldable|record|data) )([^\s:{(]+)")
 ITEM = re.compile(r"\s*(?:pub(?:\(crate\))? )?(fn|struct|enum|trait) (\w+)")
 OWNER = re.compile(r"(?:impl(?:<.*?>)? (?:.* for )?|(?:pub(?:\(crate\))? )?trait )(\w+)")
 
@@ -111,6 +111,11 @@ def definitions(of: list[str]) -> list[Found]:
     return [it for crate in of for it in found_in("specs/**/*.antt", crate)]
 
 
+def everything() -> list[Found]:
+    """All definitions, and all functions and types of the code."""
+    return definitions(crates()) + [it for crate in crates() for it in found_in("src/**/*.rt", crate)]
+
+
 def print_found(it: Found, has_text: bool) -> None:
     """Prints one, with its text if that is asked for."""
     print(f"{it.file}:{it.line}: {it.name}")
@@ -122,8 +127,7 @@ def print_found(it: Found, has_text: bool) -> None:
 
 def print_names(names: list[str]) -> int:
     """Prints all that has one of these names, and returns the status."""
-    every = definitions(crates()) + [it for crate in crates() for it in found_in("src/**/*.rt", crate)]
-    status = 0
+    every, status = everything(), 0
     for name in names:
         fitting = [it for it in every if name == it.name or ("::" not in name and it.name.endswith(f"::{name}"))]
         for it in fitting:

@@ -1,12 +1,15 @@
 """Pages: whether tools/page_check.py finds what is wrong with a page, and finds nothing on the pages of the repository."""
+import re
 import unittest
 
+import definitions
 import page_check
 from page_check import Limit, anchors_of, count_faults, counts_of, limit_of, line_faults, sentences_of
 
 LONG = "It " + "goes on " * 15 + "so."
 HARD = f"{LONG} What it says is here. It is told a word.\n"  # one of each kind
 TEN = "The desk prints a line.\n" * 10
+OTHERS = ("HasCleanDisk", "NotEmpty", "answers")  # a definition of the toolchain, a variant, a module
 
 
 class Tool(unittest.TestCase):
@@ -56,3 +59,11 @@ class Pages(unittest.TestCase):
     def test_pages(self) -> None:
         """No page has a fault."""
         self.assertEqual(0, page_check.print_faults())
+
+    def test_claims(self) -> None:
+        """Each function, type and definition that the pages of docs/proof name stands in a crate."""
+        every = {it.name for it in definitions.everything()}
+        every |= {name.split("::")[-1] for name in every} | set(OTHERS)
+        for page in ("docs/proof/CLAIMS.md", "docs/proof/NOT_PROVED.md"):
+            for name in re.findall(r"`((?:\w+::)+\w+|[A-Z][a-z]+[A-Z]\w*)`", page_check.text_of(page)):
+                self.assertIn(name.split("::")[-1], every, f"{page} names {name}")
