@@ -74,10 +74,9 @@ def items_in(file: str, lines: list[str]) -> Iterator[Found]:
 
 def end_of_item(lines: list[str], at: int, kind: str) -> int:
     """The end of an item that begins at this line: a function's is after its clauses, a type's after its body."""
-    if kind == "fn":
-        is_end = re.compile(r"\s*\{$|.*[^{] \{$|.*;$|.*\{ \}$")
-    else:
-        is_end = re.compile(r"\}|.*;$")
+    if kind != "fn" and lines[at].endswith(";"):
+        return at + 1
+    is_end = re.compile(r"\s*\{$|.*[^{] \{$|.*;$|.*\{ \}$" if kind == "fn" else r"\}")
     return next((n + 1 for n in range(at, len(lines)) if is_end.match(lines[n])), len(lines))
 
 

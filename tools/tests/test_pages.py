@@ -53,6 +53,27 @@ class Tool(unittest.TestCase):
         self.assertEqual({"what-run-does", "what-run-does-1"}, anchors_of("# What `run` does\n## What run does?\n"))
 
 
+class Definitions(unittest.TestCase):
+    """tools/definitions.py."""
+
+    def test_names(self) -> None:
+        """A definition, a function of a type and a type are found, with their files, comments and clauses."""
+        every = {it.name: it for it in definitions.everything()}
+        promise, act, carrier = every["KeepsPromise"], every["Desk::act"], every["Carrier"]
+        self.assertEqual("crates/tc_desk/specs/Promise.antt", promise.file)
+        self.assertTrue(promise.comment[0].startswith("Of a desk at any moment."), promise.comment)
+        self.assertIn("pub places", "\n".join(promise.text))
+        self.assertIn("ensures stays", "\n".join(act.text))
+        self.assertIn("fn lose", "\n".join(carrier.text))
+
+    def test_comments(self) -> None:
+        """A comment belongs to the definition right below it; a heading belongs to none."""
+        lines = ["-- one", "abbrev pub one : ℕ", "one = 1", "abbrev pub two : ℕ", "two = 2", "", "-- ---- a heading", "pub record Three where", "  pub first : ℕ"]
+        found = list(definitions.definitions_in("x", lines))
+        self.assertEqual([("one", ["one"]), ("two", []), ("Three", [])], [(it.name, it.comment) for it in found])
+        self.assertEqual(["pub record Three where", "  pub first : ℕ"], found[2].text)
+
+
 class Pages(unittest.TestCase):
     """All pages of the repository."""
 
