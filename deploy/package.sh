@@ -35,9 +35,9 @@ packed() {
 paged() {
     sed -E 's,\./tcdesk([ ;]|$),tcdesk\1,g
         s,(^|[^/])docs/(manual/)?([A-Za-z-]+)\.md,\1/usr/share/doc/tcdesk/\2\3.md.gz,g
+        s,\]\(((manual/|\.\./)?[A-Za-z-]+)\.md,](\1.md.gz,g
         s,\]\(\.\./((\.\./)?)deploy/(nginx|postgres|backup|replica)/README\.md,](\1\3.md.gz,g
         s,man docs/tcdesk\.1,man tcdesk,
-        s,\]\(((manual/|\.\./)?[A-Za-z-]+)\.md,](\1.md.gz,g
         s,(^|[^/])deploy/README\.md,\1/usr/share/doc/tcdesk/README.Debian.gz,g
         s,(^|[^/])deploy/(nginx|postgres|backup|replica)/README\.md,\1/usr/share/doc/tcdesk/\2.md.gz,g
         s,(^|[^/])deploy/(nginx/authority|nginx/\{|nginx`|postgres/tables|postgres/load|postgres`|replica/systemd/|replica/replica\.py|replica/[a-z]*\.sh|replica`),\1/usr/share/tcdesk/\2,g
