@@ -37,7 +37,7 @@ ENTRIES = (
     Entry("program", "words, files and statuses of the program, and the scripts of tools/cases", command=("tests/program_cases.sh", "PROGRAM")),
     Entry("status", "each command where its output takes nothing, its input does not read, or the disk is full",
           command=("tests/status_cases.sh", "PROGRAM")),
-    Entry("manual", "whether the commands of docs/OPERATORS.md and README.md, and examples/, print what is shown",
+    Entry("manual", "whether the commands of docs/manual/ and README.md, and examples/, print what is shown",
           command=("pages/manual.sh", "PROGRAM"), needs="curl"),
     Entry("man-page", "whether docs/tcdesk.1 says what the manual and --help say", command=("pages/man_cases.sh", "PROGRAM"),
           needs="curl; mandoc or man, or that is not tried"),
