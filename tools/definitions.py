@@ -1,7 +1,7 @@
 #!/usr/bin/env python3
 """Prints definitions with their file, line and comment.
 
-    tools/definitions.py NAME ..        each definition of these names, with its text; also functions and types of the code (Room::act names one of a type)
+    tools/definitions.py NAME ..        each definition, function and type of these names, with its text; `Room::act` names one of a type
     tools/definitions.py --all [CRATE]  all definitions, or those of a crate, in reading order, without their text
     tools/definitions.py --bare         the definitions that have no comment over them, and how many there are per crate
 

@@ -17,7 +17,8 @@ class Tool(unittest.TestCase):
 
     def test_sentences(self) -> None:
         """Sentences end at a full stop, at a paragraph, and at an item; headings, tables and text shown as is have none."""
-        text = "# A heading of many words\n\nThe first one ends. The second one\ngoes on.\n\n- An item of four\n- Too short\n\n| A row of a table |\n```\nNo sentence of any kind.\n```\n"
+        text = ("# A heading of many words\n\nThe first one ends. The second one\ngoes on.\n\n- An item of four\n- Too short\n\n"
+                "| A row of a table |\n```\nNo sentence of any kind.\n```\n")
         self.assertEqual(["The first one ends.", "The second one goes on.", "An item of four"], sentences_of(text))
 
     def test_counts(self) -> None:
@@ -43,7 +44,8 @@ class Tool(unittest.TestCase):
 
     def test_links(self) -> None:
         """Links to files, lines and headings that exist are no fault; each other link, and a file that is named and does not exist, is one."""
-        right = "[a](docs/README.md) [b](#the-promise) [c](tools/run.py#L1) [d](docs/README.md#all-pages) [e](https://example.org/x) `tools/run.py` `tools/tests/NAME.py`\n"
+        right = ("[a](docs/README.md) [b](#the-promise) [c](tools/run.py#L1) [d](docs/README.md#all-pages) [e](https://example.org/x) "
+                 "`tools/run.py` `tools/tests/NAME.py`\n")
         self.assertEqual([], list(line_faults("README.md", right)))
         for wrong in ("[a](docs/NONE.md)", "[a](#no-promise)", "[a](tools/run.py#L99999)", "[a](docs/README.md#no-pages)", "`tools/none.py`"):
             self.assertEqual(1, len(list(line_faults("README.md", wrong))), wrong)
@@ -68,7 +70,8 @@ class Definitions(unittest.TestCase):
 
     def test_comments(self) -> None:
         """A comment belongs to the definition right below it; a heading belongs to none."""
-        lines = ["-- one", "abbrev pub one : ℕ", "one = 1", "abbrev pub two : ℕ", "two = 2", "", "-- ---- a heading", "pub record Three where", "  pub first : ℕ"]
+        lines = ["-- one", "abbrev pub one : ℕ", "one = 1", "abbrev pub two : ℕ", "two = 2", "",
+                 "-- ---- a heading", "pub record Three where", "  pub first : ℕ"]
         found = list(definitions.definitions_in("x", lines))
         self.assertEqual([("one", ["one"]), ("two", []), ("Three", [])], [(it.name, it.comment) for it in found])
         self.assertEqual(["pub record Three where", "  pub first : ℕ"], found[2].text)
