@@ -78,8 +78,11 @@ layout() {
     find crates \( -name '*.rt' -o -name '*.antt' \) -print0 | xargs -0 "$rattle" fmt --check
 }
 
-# The proofs, one job each and as many at once as there are processors. rt ci left to itself lets a proof wait for more memory than it takes.
+# The proofs: first crate by crate, if rt ci takes names here, so that rt ci finds them kept. rt ci by itself proves one crate by each processor at most.
 prove() {
+    if [[ ${CI:-} != true ]] && ((${#anew[@]} == 0)); then
+        tools/prove.py || return
+    fi
     RT_JOBS="${RT_JOBS:-$(nproc)}" rt ci "${anew[@]}"
 }
 
