@@ -33,3 +33,7 @@ pub mod CreateLemmas
 pub mod PlainLemmas
 pub mod BackLemmas
 pub mod ReplyBackLemmas
+pub mod CommandBackLemmas
+pub mod WritableLemmas
+pub mod VersionLemmas
+pub mod CountLemmas

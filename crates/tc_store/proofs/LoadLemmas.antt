@@ -202,3 +202,13 @@ joined layout of db version a b c judged =
     let shows : ShowsAll layout of db image = record { version = version; requests = a.1; stacks = b.1; procedures = c.1; replies = judged } in
     let told : IsTold image = record { requests = a.2; steps = c.2; records = c.3 } in
     (image, shows, told)
+
+-- ---- a row that a desk can write
+
+pub read_at : {X : Type 0} (shown : X → Row) (P : X → Type 0) (rows : List Row) (all : List X) (k : ℕ) (d : Row) → k < length rows → AllByRecursion P all → rows ≡ map shown all → (x : X) × P x × (get_or rows k d ≡ shown x)
+read_at shown P rows [] k d within each are = absurd (let none = ap length are in omega (arith, within, none))
+read_at shown P rows (x ∷ xs) zero d within each are = (x, each.0, ap (λ l. get_or l 0 d) are)
+read_at shown P rows (x ∷ xs) (suc k) d within each are =
+    let long = ap length are in
+    let more = read_at shown P (map shown xs) xs k d (omega (arith, within, long)) each.1 refl in
+    (more.0, more.1, ap (λ l. get_or l (suc k) d) are ∙ more.2)

@@ -109,14 +109,18 @@ each_kept : (n : ℕ) (replies : List KeptAnswer) → AllByRecursion IsReplyRow 
 each_kept n [] all = tt
 each_kept n (k ∷ replies) all = (subst IsKeptAnswer (sym (same_reply k all.0.kept all.0.is)) all.0.sound, each_kept (n + 1) replies all.1)
 
-kept_in_rows : (version : Version) → HasReplies version → (ledger : Ledger) (db : Database) (held : HoldsAs version db ledger) → AreJudged (layout_in db) version db → AllByRecursion IsKeptAnswer ledger.replies
-kept_in_rows version has ledger db held judged =
+-- the table of replies of a version that has one
+pub rows_are : (version : Version) → HasReplies version → (ledger : Ledger) (db : Database) (held : HoldsAs version db ledger)
+    → (db.trees (reply_tree (layout_in db)) ≡ numbered (map reply_values ledger.replies)) × AreNumbered (db.trees (reply_tree (layout_in db)))
+rows_are version has ledger db held =
     let tree = reply_tree (layout_in db) in
     let named = reply_rows version ledger has (layout_in db) in
     let at = matches_at db.trees tree (contents_of (layout_in db) version ledger.image ledger.replies) held.rows named.0 in
     let rows : db.trees tree ≡ numbered (map reply_values ledger.replies) = at.0 ∙ named.1 in
-    let stand : AreNumbered (db.trees tree) = record { rise = subst IsTable (sym at.0) at.1; whole = subst (AllByRecursion IsNumbered) (sym rows) (numbered_rows 1 (map reply_values ledger.replies)) } in
-    each_kept 1 ledger.replies (subst (AllByRecursion IsReplyRow) rows (judged has stand))
+    (rows, record { rise = subst IsTable (sym at.0) at.1; whole = subst (AllByRecursion IsNumbered) (sym rows) (numbered_rows 1 (map reply_values ledger.replies)) })
+
+kept_in_rows : (version : Version) → HasReplies version → (ledger : Ledger) (db : Database) (held : HoldsAs version db ledger) → AreJudged (layout_in db) version db → AllByRecursion IsKeptAnswer ledger.replies
+kept_in_rows version has ledger db held judged = let are = rows_are version has ledger db held in each_kept 1 ledger.replies (subst (AllByRecursion IsReplyRow) are.0 (judged has are.1))
 
 pub all_kept : (version : Version) (ledger : Ledger) (db : Database) (held : HoldsAs version db ledger) → AreJudged (layout_in db) version db → AllByRecursion IsKeptAnswer ledger.replies
 all_kept First ledger db held judged = subst (AllByRecursion IsKeptAnswer) (sym held.lacks.0) tt

@@ -1,11 +1,11 @@
 -- How replies are judged in pages.
-use Rattle.std.proofs.Common.{◌≡◌, ℕ, zero, suc, ℤ, pos, ◌+◌, ◌+ℤ◌, min, arith, int_lt, int_le, List, [], ◌∷◌, ◌++◌, map, take, drop, length, slice_get, None, Some, refl, sym, ap, subst, ◌∙◌}
+use Rattle.std.proofs.Common.{◌≡◌, ℕ, zero, suc, ℤ, pos, ◌+◌, ◌*◌, ◌≤◌, ◌+ℤ◌, min, arith, int_lt, int_le, List, [], ◌∷◌, ◌++◌, map, take, drop, length, slice_get, None, Some, refl, sym, ap, subst, ◌∙◌}
 use Rattle.std.proofs.lemmas.Int.{ints}
 use Rattle.std.proofs.lemmas.List.{take_all, take-map, length-map, length-take}
 use Rattle.std.specs.List.{AllByRecursion}
 use Rattle.sqlite_value.specs.declared.value.Value.TheVariants.{Int, Text}
 use Rattle.sqlite_value.specs.Order.{Row, column}
-use Rattle.sqlite_keyed.proofs.ListLemmas.{all-append}
+use Rattle.sqlite_keyed.proofs.ListLemmas.{all-append, all-filter, all-slice_get, all_map}
 use Rattle.sqlite_tied.specs.Compute.{everything}
 use Rattle.sqlite.specs.Effect.{Database}
 use Rattle.sqlite.specs.Listing.{understood, listing_schema}
@@ -23,7 +23,8 @@ use Rattle.tc_store.specs.Schema.{HasReplies, schema_of}
 use Rattle.tc_store.specs.Reads.{IsQuiet}
 use Rattle.tc_store.specs.Shows.{shown_of, as_number, number_of, IsNumbered, AreNumbered, AreOfReply, IsReplyRow, rows_from}
 use Rattle.tc_store.proofs.ShowLemmas.{map_all}
-use Rattle.tc_store.proofs.NumberLemmas.{filter_on, passes_from, rest_of, all_left}
+use Rattle.tc_store.proofs.NumberLemmas.{filter_on, passes_from, rest_of, all_left, all_take}
+use Rattle.tc_store.proofs.CountLemmas.{page_more}
 
 reply_page_is : (layout : Layout) (version : Version) → HasReplies version → ListsFrom (schema_of layout version) (reply_tree layout) reply_page_text reply_page_tests reply_page_columns reply_page_limit
 unfolding understood everything
@@ -65,14 +66,15 @@ page_rows layout version replies first old new rows has numbered h =
     ∙ ap (λ l. take reply_page_size (map (shown_of reply_page_columns) l))
     (filter_on (passes reply_page_tests params) (λ row. int_le first (number_of row)) IsNumbered (passes_from first) (old.now.trees (reply_tree layout)) numbered.whole)
 
--- these were judged, and those from a number on are left
-pub record AreJudgedTo (rows : List Row) (first : ℤ) : Type 0 where
+-- these were judged, two or more in each of so many pages, and those from a number on are left
+pub record AreJudgedTo (rows : List Row) (pages : ℕ) (first : ℤ) : Type 0 where
   pub done : List Row
   pub left : done ++ rows_from first rows ≡ rows
+  pub many : 2 * pages ≤ length done
   pub judged : AllByRecursion IsReplyRow done
 
-pub none_judged : (rows : List Row) → AreNumbered rows → AreJudgedTo rows (first_behind None)
-none_judged rows numbered = record { done = []; left = all_left rows numbered; judged = tt }
+pub none_judged : (rows : List Row) → AreNumbered rows → AreJudgedTo rows 0 (first_behind None)
+none_judged rows numbered = record { done = []; left = all_left rows numbered; many = omega arith; judged = tt }
 
 -- what was judged of what columns show was judged of the rows
 rows_judged : (rows : List Row) → AllByRecursion (λ (row : Row). AreOfReply (drop 1 row)) (map (shown_of reply_page_columns) rows) → AllByRecursion IsReplyRow rows
@@ -91,8 +93,7 @@ next_of : (m n : ℤ) → int_le (m +ℤ pos 1) n ≡ int_lt m n
 next_of m n = grind (arith, ints)
 
 module _ (layout : Layout) (version : Version) (replies : HasReplies version) (first : ℤ) (was : Database) (old new : State) (page seen : List Row) (there : old.now ≡ was) (has : was.schema ≡ schema_of layout version) (numbered : AreNumbered (was.trees (reply_tree layout)))
-    (so_far : AreJudgedTo (was.trees (reply_tree layout)) first) (h : Shown reply_page_text (Int first ∷ []) old new page) (same : seen ≡ page)
-    (judges : AllByRecursion (λ (row : Row). length row ≡ 4) seen → AllByRecursion (λ (row : Row). AreOfReply (drop 1 row)) seen) where
+    (h : Shown reply_page_text (Int first ∷ []) old new page) (same : seen ≡ page) where
   abbrev rows : List Row
   rows = was.trees (reply_tree layout)
 
@@ -104,30 +105,46 @@ module _ (layout : Layout) (version : Version) (replies : HasReplies version) (f
       same ∙ page_rows layout version replies first old new page (ap (λ (db : Database). db.schema) there ∙ has) (subst (λ (db : Database). AreNumbered (db.trees (reply_tree layout))) (sym there) numbered) h
       ∙ ap (λ (db : Database). take reply_page_size (map (shown_of reply_page_columns) (rows_from first (db.trees (reply_tree layout))))) there ∙ take-map (shown_of reply_page_columns) reply_page_size (rows_from first rows)
 
-  taken_judged : AllByRecursion IsReplyRow taken
-  taken_judged =
-      rows_judged taken (subst (AllByRecursion (λ (row : Row). AreOfReply (drop 1 row))) seen_is (judges (subst (AllByRecursion (λ (row : Row). length row ≡ 4)) (sym seen_is) (four_wide taken))))
-
   long : length taken ≡ length seen
   long = sym (length-map taken (shown_of reply_page_columns)) ∙ ap length (sym seen_is)
 
-  -- behind a full page the next one begins after the number of its last row
-  pub judged_on : (k : ℕ) (last : Row) (n : ℤ) → length seen ≡ k + 1 → slice_get seen k ≡ Some last → column last 0 ≡ Int n → AreJudgedTo rows (n +ℤ pos 1)
-  judged_on k last n full got numbers =
-      let row = at_of taken k last (ap (λ l. slice_get l k) (sym seen_is) ∙ got) in
-      let number : number_of row.0 ≡ n = ap (λ r. as_number (column r 0)) row.2 ∙ ap as_number numbers in
-      record {
-        done = so_far.done ++ taken;
-        left = rest_of reply_page_size rows so_far.done numbered first (n +ℤ pos 1) k row.0 so_far.left (long ∙ full) row.1 (λ m. next_of n m ∙ ap (λ z. int_lt z m) (sym number));
-        judged = all-append IsReplyRow so_far.done taken so_far.judged taken_judged;
-      }
+  taken_of : (P : Row → Type 0) → AllByRecursion P rows → AllByRecursion P taken
+  taken_of P all = all_take P reply_page_size (rows_from first rows) (all-filter P (λ row. int_le first (number_of row)) rows all)
 
-  -- one that is not full is the last
-  pub judged_out : (length seen ≡ reply_page_size → ⊥) → AllByRecursion IsReplyRow rows
-  judged_out short =
-      let many : length seen ≡ min reply_page_size (length (rows_from first rows)) = sym long ∙ length-take reply_page_size (rows_from first rows) in
-      let whole : so_far.done ++ taken ≡ rows = ap (λ l. so_far.done ++ l) (take_all reply_page_size (rows_from first rows) (grind (arith, many, short))) ∙ so_far.left in
-      subst (AllByRecursion IsReplyRow) whole (all-append IsReplyRow so_far.done taken so_far.judged taken_judged)
+  -- a page of rows of replies shows rows of replies
+  pub page_of_replies : AllByRecursion IsReplyRow rows → AllByRecursion (λ (row : Row). AreOfReply (drop 1 row)) seen
+  page_of_replies all = subst (AllByRecursion (λ (row : Row). AreOfReply (drop 1 row))) (sym seen_is) (all_map (λ (row : Row). AreOfReply (drop 1 row)) (shown_of reply_page_columns) taken (taken_of IsReplyRow all))
+
+  -- each row of a page shows a number of the table
+  pub number_shown : (P : ℤ → Type 0) (k : ℕ) (last : Row) → AllByRecursion (λ row. P (number_of row)) rows → slice_get seen k ≡ Some last → (n : ℤ) × (column last 0 ≡ Int n) × P n
+  number_shown P k last all got =
+      let row = at_of taken k last (ap (λ l. slice_get l k) (sym seen_is) ∙ got) in
+      let stands : IsNumbered row.0 = all-slice_get IsNumbered taken k row.0 row.1 (taken_of IsNumbered numbered.whole) in
+      (number_of row.0, ap (λ r. column r 0) (sym row.2) ∙ stands.0, all-slice_get (λ r. P (number_of r)) taken k row.0 row.1 (taken_of (λ r. P (number_of r)) all))
+
+  module _ (pages : ℕ) (so_far : AreJudgedTo rows pages first) (judges : AllByRecursion (λ (row : Row). length row ≡ 4) seen → AllByRecursion (λ (row : Row). AreOfReply (drop 1 row)) seen) where
+    taken_judged : AllByRecursion IsReplyRow taken
+    taken_judged =
+        rows_judged taken (subst (AllByRecursion (λ (row : Row). AreOfReply (drop 1 row))) seen_is (judges (subst (AllByRecursion (λ (row : Row). length row ≡ 4)) (sym seen_is) (four_wide taken))))
+
+    -- behind a full page the next one begins after the number of its last row
+    pub judged_on : (k : ℕ) (last : Row) (n : ℤ) → 1 ≤ k → length seen ≡ k + 1 → slice_get seen k ≡ Some last → column last 0 ≡ Int n → AreJudgedTo rows (pages + 1) (n +ℤ pos 1)
+    judged_on k last n two full got numbers =
+        let row = at_of taken k last (ap (λ l. slice_get l k) (sym seen_is) ∙ got) in
+        let number : number_of row.0 ≡ n = ap (λ r. as_number (column r 0)) row.2 ∙ ap as_number numbers in
+        record {
+          done = so_far.done ++ taken;
+          left = rest_of reply_page_size rows so_far.done numbered first (n +ℤ pos 1) k row.0 so_far.left (long ∙ full) row.1 (λ m. next_of n m ∙ ap (λ z. int_lt z m) (sym number));
+          many = page_more pages so_far.done taken so_far.many (omega (arith, long, full, two));
+          judged = all-append IsReplyRow so_far.done taken so_far.judged taken_judged;
+        }
+
+    -- one that is not full is the last
+    pub judged_out : (length seen ≡ reply_page_size → ⊥) → AllByRecursion IsReplyRow rows
+    judged_out short =
+        let many : length seen ≡ min reply_page_size (length (rows_from first rows)) = sym long ∙ length-take reply_page_size (rows_from first rows) in
+        let whole : so_far.done ++ taken ≡ rows = ap (λ l. so_far.done ++ l) (take_all reply_page_size (rows_from first rows) (grind (arith, many, short))) ∙ so_far.left in
+        subst (AllByRecursion IsReplyRow) whole (all-append IsReplyRow so_far.done taken so_far.judged taken_judged)
 
 -- ---- one row
 

@@ -5,6 +5,8 @@ use Rattle.sqlite_value.specs.declared.value.Value.TheVariants.{Int, Text}
 use Rattle.tc_types.specs.declared.requests.Origin.{Origin}
 use Rattle.tc_store.specs.Requests.{stack_of, line_of, prior_of}
 use Rattle.tc_store.specs.Records.{second_text}
+use Rattle.tc_types.specs.Names.{IsName}
+use Rattle.tc_store.specs.Writable.{IsWritableOrigin}
 use Rattle.tc_store.specs.Told.{IsToldOrigin}
 
 not_zero : (n : ℕ) → (suc n == 0) ≡ false
@@ -39,3 +41,8 @@ origin_some (Some o) stack line prior told reads e1 e2 after is =
 pub origin_none : (origin : Option Origin) → IfSome origin IsToldOrigin → IsRead None (stack_of origin) → None ≡ origin
 origin_none None told reads = refl
 origin_none (Some o) told reads = absurd (none_differs o.stack (sym (reads (Some o.stack) (λ h. told.stack (same_name h)) refl)))
+
+-- the stack of a request that a desk can write has a name, where there is one
+pub stack_named : (o : Option Origin) → IfSome o IsWritableOrigin → (w : Option (List ℕ)) × IfSome w IsName × (stack_of o ≡ second_text w)
+stack_named None named = (None, tt, refl)
+stack_named (Some o) named = (Some o.stack, named.stack, refl)

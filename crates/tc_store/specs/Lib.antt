@@ -23,3 +23,4 @@ pub mod Reads
 pub mod Loads
 pub mod Shows
 pub mod ReadsBack
+pub mod Writable

@@ -36,6 +36,7 @@ pub enum ReadFault {
 }
 
 impl From<sqlite::Error> for ReadFault {
+    ghost use Rattle.tc_store.specs.ReadsBack.{ReadsBack};
     ghost use Rattle.std.specs.Prelude.{◌≡◌};
     ghost use Rattle.tc_store.specs.declared.faults.ReadFault.TheVariants.{Sqlite};
 

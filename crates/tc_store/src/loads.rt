@@ -1,4 +1,7 @@
 //! How all tables are read.
+ghost use Rattle.tc_store.specs.Writable.{IsWritableLedger};
+ghost use Rattle.tc_store.specs.Writable.{IsWritable};
+ghost use Rattle.tc_store.specs.ReadsBack.{ReadsBack};
 ghost use Rattle.std.specs.Prelude.{◌≡◌, IfOk};
 ghost use Rattle.std.specs.List.{AllByRecursion};
 ghost use Rattle.sqlite.specs.State.{HasCleanDisk};
@@ -88,6 +91,7 @@ fn load_of_requests<S: Alter>(
     ensures rows { HasCleanDisk (state S.Store conn.new) → IfOk result (λ found. (of : SomeVersion) (ledger : Ledger) → of ≡ version → IsTold ledger.image → HoldsAs of (state S.Store conn.old).now ledger → (found.requests.items ≡ ledger.image.requests) × (found.moves.items ≡ ledger.image.moves) × (found.tallies.items ≡ ledger.image.tallies) × (found.approvals.items ≡ ledger.image.approvals) × (found.cargo.items ≡ ledger.image.cargo)) }
     ensures reads { Reads S.Store (λ db found. (layout : SomeLayout) (of : SomeVersion) → db.schema ≡ schema_of layout of → of ≡ version → ShowsRequests layout version db found.requests.items found.moves.items found.tallies.items found.approvals.items found.cargo.items) conn.old conn.new result }
     ensures told { IfOk result (λ found. AllByRecursion IsToldRequest found.requests.items) }
+    ensures back { HasCleanDisk (state S.Store conn.new) → (of : SomeVersion) (ledger : Ledger) → of ≡ version → HoldsAs of (state S.Store conn.old).now ledger → IsWritable ledger.image → ReadsBack result }
 {
     let requests = load_requests(conn, alloc)?;
     let moves = load_moves(conn, alloc)?;
@@ -107,6 +111,7 @@ fn load_of_requests<S: Alter>(
 fn load_of_stacks<S: Alter>(conn: &mut Connection<S>, alloc: Global) -> Result<OfStacks, ReadFault>
     ensures rows { HasCleanDisk (state S.Store conn.new) → IfOk result (λ found. (version : SomeVersion) (ledger : Ledger) → IsTold ledger.image → HoldsAs version (state S.Store conn.old).now ledger → (found.stacks.items ≡ ledger.image.stacks) × (found.approvals.items ≡ ledger.image.stack_approvals)) }
     ensures reads { Reads S.Store (λ db found. (layout : SomeLayout) (version : SomeVersion) → db.schema ≡ schema_of layout version → ShowsStacks layout db found.stacks.items found.approvals.items) conn.old conn.new result }
+    ensures back { HasCleanDisk (state S.Store conn.new) → (version : SomeVersion) (ledger : Ledger) → HoldsAs version (state S.Store conn.old).now ledger → IsWritable ledger.image → ReadsBack result }
 {
     let stacks = load_stacks(conn, alloc)?;
     let approvals = load_stack_approvals(conn, alloc)?;
@@ -121,6 +126,7 @@ fn load_of_procedures<S: Alter>(
     ensures rows { HasCleanDisk (state S.Store conn.new) → IfOk result (λ found. (version : SomeVersion) (ledger : Ledger) → IsTold ledger.image → HoldsAs version (state S.Store conn.old).now ledger → (found.procedures.items ≡ ledger.image.procedures) × (found.steps.items ≡ ledger.image.steps) × (found.executions.items ≡ ledger.image.executions) × (found.records.items ≡ ledger.image.records)) }
     ensures reads { Reads S.Store (λ db found. (layout : SomeLayout) (version : SomeVersion) → db.schema ≡ schema_of layout version → ShowsProcedures layout db found.procedures.items found.steps.items found.executions.items found.records.items) conn.old conn.new result }
     ensures told { IfOk result (λ found. AllByRecursion IsToldStep found.steps.items × AllByRecursion IsToldRecord found.records.items) }
+    ensures back { HasCleanDisk (state S.Store conn.new) → (version : SomeVersion) (ledger : Ledger) → HoldsAs version (state S.Store conn.old).now ledger → IsWritable ledger.image → ReadsBack result }
 {
     let procedures = load_procedures(conn, alloc)?;
     let steps = load_steps(conn, alloc)?;
@@ -144,6 +150,7 @@ pub(crate) fn load_tables<S: Alter>(
     ensures image { HasCleanDisk (state S.Store conn.new) → IfOk result (λ loaded. (of : SomeVersion) (ledger : Ledger) → IsTold ledger.image → HoldsAs of (state S.Store conn.old).now ledger → rows_in loaded ≡ ledger.image) }
     ensures told { IfOk result (λ loaded. IsTold (rows_in loaded)) }
     ensures reads { Reads S.Store (λ db loaded. (layout : SomeLayout) → db.schema ≡ schema_of layout version → ShowsAll layout version db (rows_in loaded)) conn.old conn.new result }
+    ensures back { HasCleanDisk (state S.Store conn.new) → (ledger : Ledger) → HoldsAs version (state S.Store conn.old).now ledger → IsWritableLedger ledger → ReadsBack result }
 {
     check_version(conn, version)?;
     let book = load_of_requests(conn, alloc, version)?;

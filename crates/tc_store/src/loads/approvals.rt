@@ -1,4 +1,6 @@
 //! The table `request_approval`, in the order in which the approvals were given.
+ghost use Rattle.tc_store.specs.Writable.{IsWritable};
+ghost use Rattle.tc_store.specs.ReadsBack.{ReadsBack};
 ghost use Rattle.std.specs.Prelude.{◌≡◌, map, IfOk, ⊤};
 ghost use Rattle.sqlite.specs.State.{HasCleanDisk};
 ghost use Rattle.sqlite.specs.Held.{state};
@@ -10,6 +12,7 @@ ghost use Rattle.tc_store.specs.Approvals.{approval_tree, approval_values};
 ghost use Rattle.tc_store.specs.Schema.{schema_of, HoldsAs};
 ghost use Rattle.tc_store.specs.Loads.{all_approval_columns};
 ghost use Rattle.tc_store.specs.Shows.{ShowsRows};
+ghost use Rattle.tc_store.specs.Writable.{IsWritableApproval};
 ghost use Rattle.tc_store.specs.Reads.{Reads};
 
 use crate::cells::{name_at, request_at};
@@ -27,6 +30,8 @@ impl Loads for Approval {
 
     ghost is_told = { λ _. ⊤ };
 
+    ghost is_writable = { IsWritableApproval };
+
     fn read(row: &Row) -> Result<Approval, ReadFault> {
         Ok(Approval {
             request: request_at(row, 0)?,
@@ -42,6 +47,7 @@ pub(crate) fn load_approvals<S: Alter>(
 ) -> Result<Vec<Approval>, ReadFault>
     ensures rows { HasCleanDisk (state S.Store conn.new) → IfOk result (λ found. (version : SomeVersion) (ledger : Ledger) → HoldsAs version (state S.Store conn.old).now ledger → found.items ≡ ledger.image.approvals) }
     ensures reads { Reads S.Store (λ db found. (layout : SomeLayout) (version : SomeVersion) → db.schema ≡ schema_of layout version → ShowsRows (db.trees (approval_tree layout)) all_approval_columns (map approval_values found.items)) conn.old conn.new result }
+    ensures back { HasCleanDisk (state S.Store conn.new) → (version : SomeVersion) (ledger : Ledger) → HoldsAs version (state S.Store conn.old).now ledger → IsWritable ledger.image → ReadsBack result }
 {
     let rows = rows_of(conn, ALL, &[])?;
     read_all(alloc, rows.as_slice())

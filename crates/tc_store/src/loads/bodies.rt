@@ -1,5 +1,7 @@
 //! What a row of the table `request` shows.
-ghost use Rattle.std.specs.Prelude.{◌≡◌, ◌==◌, pos, length, if◌then◌else◌, Some, None, IfOk, IfSome};
+ghost use Rattle.tc_store.specs.Writable.{IsWritableRequest};
+ghost use Rattle.tc_store.specs.ReadsBack.{OnlyMemory};
+ghost use Rattle.std.specs.Prelude.{◌≡◌, ◌==◌, ◌<◌, ◌^◌, ℕ, pos, length, if◌then◌else◌, Some, None, IfOk, IfSome};
 ghost use Rattle.sqlite_value.specs.declared.value.Value.TheVariants.{Int, Text};
 ghost use Rattle.sqlite_value.specs.Order.{column};
 ghost use Rattle.tc_types.specs.declared.requests.Ack.{Ack as SomeAck};
@@ -20,6 +22,7 @@ use tc_types::{Ack, Apid, Body, Identity, Origin, Outcome, PlacedRequest, Reques
 /// A number of two bytes.
 fn short_at(row: &Row, at: usize) -> Result<u16, ReadFault>
     ensures reads { IfOk result (ShowsNumber row.now at) }
+    ensures back { (n : ℕ) → n < 2 ^ 16 → ShowsNumber row.now at n → OnlyMemory result }
 {
     let number = number_at(row, at)?;
     u16::try_from(number).map_err(|_| ReadFault::Damaged)
@@ -29,6 +32,7 @@ fn short_at(row: &Row, at: usize) -> Result<u16, ReadFault>
 fn identity_in(row: &Row) -> Result<Identity, ReadFault>
     ensures same { IfOk result (λ identity. (was : Was) → row.now ≡ request_given was → identity ≡ was.request.body.identity) }
     ensures reads { IfOk result (λ identity. (column row.now 1 ≡ Int (pos identity.apid)) × (column row.now 2 ≡ Int (pos identity.count))) }
+    ensures back { (was : Was) → IsWritableRequest was → row.now ≡ request_given was → OnlyMemory result }
 {
     let apid = short_at(row, 1)?;
     let count = short_at(row, 2)?;
@@ -42,6 +46,7 @@ fn identity_in(row: &Row) -> Result<Identity, ReadFault>
 fn ack_at(row: &Row, at: usize) -> Result<Ack, ReadFault>
     ensures same { IfOk result (λ ack. (was : SomeAck) → column row.now at ≡ Int (pos (ack_number was)) → ack ≡ was) }
     ensures reads { IfOk result (λ ack. column row.now at ≡ Int (pos (ack_number ack))) }
+    ensures back { (was : SomeAck) → column row.now at ≡ Int (pos (ack_number was)) → OnlyMemory result }
 {
     let number = number_at(row, at)?;
     if number > 15 {
@@ -60,6 +65,7 @@ fn outcome_at(row: &Row, at: usize) -> Result<Outcome, ReadFault>
     ensures same { IfOk result (λ outcome. (was : SomeOutcome) → IsOutcome was → column row.now at ≡ Text (outcome_word was) → outcome ≡ was) }
     ensures reads { IfOk result (λ outcome. column row.now at ≡ Text (outcome_word outcome)) }
     ensures told { IfOk result (λ outcome. IsOutcome outcome) }
+    ensures back { (was : SomeOutcome) → IsOutcome was → column row.now at ≡ Text (outcome_word was) → OnlyMemory result }
 {
     let text = text_at(row, at)?;
     outcome(text.as_bytes()).ok_or(ReadFault::Damaged)
@@ -77,6 +83,7 @@ fn origin_in(row: &Row) -> Result<Option<Origin>, ReadFault>
     ensures same { IfOk result (λ origin. (was : Was) → IsToldRequest was → row.now ≡ request_given was → origin ≡ was.request.origin) }
     ensures reads { IfOk result (λ origin. (column row.now 11 ≡ Text (stack_of origin)) × (column row.now 12 ≡ Int (pos (line_of origin))) × (column row.now 13 ≡ Int (pos (prior_of origin)))) }
     ensures told { IfOk result (λ origin. IfSome origin IsToldOrigin) }
+    ensures back { (was : Was) → IsWritableRequest was → row.now ≡ request_given was → OnlyMemory result }
 {
     let stack = second_at(row, 11)?;
     let line = number_at(row, 12)?;
@@ -102,6 +109,7 @@ fn body_in(row: &Row) -> Result<Body, ReadFault>
     ensures same { IfOk result (λ body. (was : Was) → IsToldRequest was → row.now ≡ request_given was → body ≡ was.request.body) }
     ensures reads { IfOk result (λ body. ShowsBody row.now body) }
     ensures told { IfOk result (λ body. IsToldCommand body.command × IsOutcome body.outcome) }
+    ensures back { (was : Was) → IsWritableRequest was → row.now ≡ request_given was → OnlyMemory result }
 {
     Ok(Body {
         identity: identity_in(row)?,
@@ -116,6 +124,7 @@ pub(crate) fn read_request(row: &Row) -> Result<PlacedRequest, ReadFault>
     ensures same { IfOk result (λ placed. (was : Was) → IsToldRequest was → row.now ≡ request_given was → placed ≡ was) }
     ensures reads { IfOk result (λ placed. length row.now ≡ 15 → row.now ≡ request_given placed) }
     ensures told { IfOk result (λ placed. IsToldRequest placed) }
+    ensures back { (was : Was) → IsWritableRequest was → row.now ≡ request_given was → OnlyMemory result }
 {
     let number = request_at(row, 0)?;
     let body = body_in(row)?;

@@ -1,4 +1,8 @@
 //! The table `cargo`, in the order in which its rows were written.
+ghost use Rattle.tc_store.specs.ReadsBack.{ReadsBack};
+ghost use Rattle.tc_store.specs.Writable.{IsWritable};
+ghost use Rattle.tc_types.specs.declared.tables.cargo.Cargo.{Cargo as SomeCargo};
+ghost use Rattle.tc_store.specs.ReadsBack.{OnlyMemory};
 ghost use Rattle.std.specs.Prelude.{◌≡◌, map, IfOk, ⊤};
 ghost use Rattle.sqlite.specs.State.{HasCleanDisk};
 ghost use Rattle.sqlite.specs.Held.{state};
@@ -10,6 +14,7 @@ ghost use Rattle.tc_store.specs.Cargo.{cargo_tree, cargo_values};
 ghost use Rattle.tc_store.specs.Schema.{HasCargo, schema_of, HoldsAs};
 ghost use Rattle.tc_store.specs.Loads.{all_cargo_columns};
 ghost use Rattle.tc_store.specs.Shows.{ShowsNumber, ShowsRows, ShowsCargo};
+ghost use Rattle.tc_store.specs.Writable.{IsWritableCargo};
 ghost use Rattle.tc_store.specs.Reads.{Reads};
 
 use crate::cells::{moment_at, number_at, position_at, request_at};
@@ -26,6 +31,7 @@ const ALL: &str = "SELECT request, position, target, at_time FROM cargo ORDER BY
 /// What is named there, in the columns 2 and 3.
 fn ride_in(row: &Row) -> Result<Ride, ReadFault>
     ensures reads { IfOk result (λ ride. ShowsNumber row.now 2 ride.target × ShowsNumber row.now 3 ride.time) }
+    ensures back { (was : SomeCargo) → IsWritableCargo was → row.now ≡ cargo_values was → OnlyMemory result }
 {
     Ok(Ride {
         target: number_at(row, 2)?,
@@ -37,6 +43,8 @@ impl Loads for Cargo {
     ghost shown = { cargo_values };
 
     ghost is_told = { λ _. ⊤ };
+
+    ghost is_writable = { IsWritableCargo };
 
     fn read(row: &Row) -> Result<Cargo, ReadFault> {
         Ok(Cargo {
@@ -51,6 +59,7 @@ impl Loads for Cargo {
 fn read_rows<S: Alter>(conn: &mut Connection<S>, alloc: Global) -> Result<Vec<Cargo>, ReadFault>
     ensures rows { HasCleanDisk (state S.Store conn.new) → IfOk result (λ found. (of : SomeVersion) (ledger : Ledger) → HasCargo of → HoldsAs of (state S.Store conn.old).now ledger → found.items ≡ ledger.image.cargo) }
     ensures reads { Reads S.Store (λ db found. (layout : SomeLayout) (of : SomeVersion) → db.schema ≡ schema_of layout of → HasCargo of → ShowsRows (db.trees (cargo_tree layout)) all_cargo_columns (map cargo_values found.items)) conn.old conn.new result }
+    ensures back { HasCleanDisk (state S.Store conn.new) → (version : SomeVersion) (ledger : Ledger) → HasCargo version → HoldsAs version (state S.Store conn.old).now ledger → IsWritable ledger.image → ReadsBack result }
 {
     let rows = rows_of(conn, ALL, &[])?;
     read_all(alloc, rows.as_slice())
@@ -64,6 +73,7 @@ pub(crate) fn load_cargo<S: Alter>(
 ) -> Result<Vec<Cargo>, ReadFault>
     ensures rows { HasCleanDisk (state S.Store conn.new) → IfOk result (λ found. (of : SomeVersion) (ledger : Ledger) → of ≡ version → HoldsAs of (state S.Store conn.old).now ledger → found.items ≡ ledger.image.cargo) }
     ensures reads { Reads S.Store (λ db found. (layout : SomeLayout) (of : SomeVersion) → db.schema ≡ schema_of layout of → of ≡ version → ShowsCargo layout version db found.items) conn.old conn.new result }
+    ensures back { HasCleanDisk (state S.Store conn.new) → (of : SomeVersion) (ledger : Ledger) → of ≡ version → HoldsAs of (state S.Store conn.old).now ledger → IsWritable ledger.image → ReadsBack result }
 {
     match version {
         Version::First | Version::Second => Ok(Vec::new(alloc)),

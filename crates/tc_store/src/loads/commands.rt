@@ -1,5 +1,9 @@
 //! The command that a row of the table `request` shows.
-ghost use Rattle.std.specs.Prelude.{◌≡◌, pos, IfOk, IfSome};
+ghost use Rattle.tc_types.specs.Numbers.{IsMoment};
+ghost use Rattle.tc_types.specs.declared.requests.Command.{Command as SomeCommand};
+ghost use Rattle.tc_store.specs.Writable.{IsWritableRequest};
+ghost use Rattle.tc_store.specs.ReadsBack.{OnlyMemory};
+ghost use Rattle.std.specs.Prelude.{◌≡◌, ◌≢◌, ℕ, pos, IfOk, IfSome, IsSome};
 ghost use Rattle.tc_types.specs.declared.tables.rows.PlacedRequest.{PlacedRequest as Was};
 ghost use Rattle.sqlite_value.specs.declared.value.Value.TheVariants.{Int};
 ghost use Rattle.sqlite_value.specs.Order.{column};
@@ -13,7 +17,8 @@ use tc_types::{Command, Moment, Offset, Ride, Rides, Service, Subtype};
 
 /// A moment, by a number of either sign.
 fn moment_of(seconds: i64) -> Option<Moment>
-    ensures { IfSome result (λ moment. seconds ≡ pos moment) }
+    ensures shows { IfSome result (λ moment. seconds ≡ pos moment) }
+    ensures all { (n : ℕ) → IsMoment n → seconds ≡ pos n → IsSome result }
 {
     match u32::try_from(seconds) {
         Ok(seconds) => Moment::new(seconds),
@@ -25,6 +30,7 @@ fn moment_of(seconds: i64) -> Option<Moment>
 fn plain_of(service: u32, subtype: u32, target: u32, time: i64) -> Option<Command>
     ensures shows { IfSome result (ShowsCommand service subtype target time) }
     ensures told { IfSome result IsToldCommand }
+    ensures all { service ≢ 11 → (c : SomeCommand) → IsToldCommand c → ShowsCommand service subtype target time c → IsSome result }
 {
     if target != 0 || time != 0 {
         return None;
@@ -42,6 +48,7 @@ fn plain_of(service: u32, subtype: u32, target: u32, time: i64) -> Option<Comman
 fn bare_of(subtype: u32) -> Option<Command>
     ensures shows { IfSome result (ShowsCommand 11 subtype 0 (pos 0)) }
     ensures told { IfSome result IsToldCommand }
+    ensures all { subtype ≢ 4 → subtype ≢ 5 → subtype ≢ 7 → subtype ≢ 15 → (c : SomeCommand) → IsToldCommand c → ShowsCommand 11 subtype 0 (pos 0) c → IsSome result }
 {
     match subtype {
         1 => Some(Command::EnableSchedule),
@@ -56,6 +63,7 @@ fn bare_of(subtype: u32) -> Option<Command>
 fn insert_of(target: u32, time: i64) -> Option<Command>
     ensures shows { IfSome result (ShowsCommand 11 4 target time) }
     ensures told { IfSome result IsToldCommand }
+    ensures all { (c : SomeCommand) → IsToldCommand c → ShowsCommand 11 4 target time c → IsSome result }
 {
     let time = moment_of(time)?;
     let rides = Rides::of(&[Ride { target, time }])?;
@@ -66,6 +74,7 @@ fn insert_of(target: u32, time: i64) -> Option<Command>
 fn schedule_of(subtype: u32, target: u32, time: i64) -> Option<Command>
     ensures shows { IfSome result (ShowsCommand 11 subtype target time) }
     ensures told { IfSome result IsToldCommand }
+    ensures all { (c : SomeCommand) → IsToldCommand c → ShowsCommand 11 subtype target time c → IsSome result }
 {
     if subtype == 4 {
         return insert_of(target, time);
@@ -94,6 +103,7 @@ fn schedule_of(subtype: u32, target: u32, time: i64) -> Option<Command>
 fn command_of(service: u32, subtype: u32, target: u32, time: i64) -> Option<Command>
     ensures shows { IfSome result (ShowsCommand service subtype target time) }
     ensures told { IfSome result IsToldCommand }
+    ensures all { (c : SomeCommand) → IsToldCommand c → ShowsCommand service subtype target time c → IsSome result }
 {
     if service == 11 {
         schedule_of(subtype, target, time)
@@ -107,6 +117,7 @@ pub(crate) fn command_in(row: &Row) -> Result<Command, ReadFault>
     ensures same { IfOk result (λ command. (was : Was) → IsToldRequest was → row.now ≡ request_given was → command ≡ was.request.body.command) }
     ensures reads { IfOk result (λ command. (column row.now 5 ≡ Int (pos (service_of command))) × (column row.now 6 ≡ Int (pos (subtype_of command))) × (column row.now 7 ≡ Int (pos (target_of command))) × (column row.now 8 ≡ Int (time_of command))) }
     ensures told { IfOk result (λ command. IsToldCommand command) }
+    ensures back { (was : Was) → IsWritableRequest was → row.now ≡ request_given was → OnlyMemory result }
 {
     let service = number_at(row, 5)?;
     let subtype = number_at(row, 6)?;

@@ -1,4 +1,6 @@
 //! The table `execution`, in order of number.
+ghost use Rattle.tc_store.specs.Writable.{IsWritable};
+ghost use Rattle.tc_store.specs.ReadsBack.{ReadsBack};
 ghost use Rattle.std.specs.Prelude.{◌≡◌, map, IfOk, ⊤};
 ghost use Rattle.sqlite.specs.State.{HasCleanDisk};
 ghost use Rattle.sqlite.specs.Held.{state};
@@ -10,6 +12,7 @@ ghost use Rattle.tc_store.specs.Executions.{execution_tree, execution_given};
 ghost use Rattle.tc_store.specs.Schema.{schema_of, HoldsAs};
 ghost use Rattle.tc_store.specs.Loads.{all_execution_columns};
 ghost use Rattle.tc_store.specs.Shows.{ShowsRows};
+ghost use Rattle.tc_store.specs.Writable.{IsWritableExecution};
 ghost use Rattle.tc_store.specs.Reads.{Reads};
 
 use crate::cells::{moment_at, name_at, number_at};
@@ -26,6 +29,8 @@ impl Loads for BegunExecution {
     ghost shown = { execution_given };
 
     ghost is_told = { λ _. ⊤ };
+
+    ghost is_writable = { IsWritableExecution };
 
     fn read(row: &Row) -> Result<BegunExecution, ReadFault> {
         Ok(BegunExecution {
@@ -44,6 +49,7 @@ pub(crate) fn load_executions<S: Alter>(
 ) -> Result<Vec<BegunExecution>, ReadFault>
     ensures rows { HasCleanDisk (state S.Store conn.new) → IfOk result (λ found. (version : SomeVersion) (ledger : Ledger) → HoldsAs version (state S.Store conn.old).now ledger → found.items ≡ ledger.image.executions) }
     ensures reads { Reads S.Store (λ db found. (layout : SomeLayout) (version : SomeVersion) → db.schema ≡ schema_of layout version → ShowsRows (db.trees (execution_tree layout)) all_execution_columns (map execution_given found.items)) conn.old conn.new result }
+    ensures back { HasCleanDisk (state S.Store conn.new) → (version : SomeVersion) (ledger : Ledger) → HoldsAs version (state S.Store conn.old).now ledger → IsWritable ledger.image → ReadsBack result }
 {
     let rows = rows_of(conn, ALL, &[])?;
     read_all(alloc, rows.as_slice())

@@ -1,4 +1,11 @@
 //! How all tables are read and nothing is kept: the rows of one table are dropped before the next is read.
+ghost use Rattle.tc_store.specs.Writable.{IsWritableLedger};
+ghost use Rattle.sqlite.specs.Held.{state};
+ghost use Rattle.sqlite.specs.State.{HasCleanDisk};
+ghost use Rattle.tc_store.specs.Schema.{HoldsAs};
+ghost use Rattle.tc_store.specs.Ledgers.{Ledger};
+ghost use Rattle.tc_store.specs.Writable.{IsWritable};
+ghost use Rattle.tc_store.specs.ReadsBack.{ReadsBack};
 ghost use Rattle.std.specs.Prelude.{◌≡◌};
 ghost use Rattle.std.specs.List.{AllByRecursion};
 ghost use Rattle.tc_types.specs.Tables.{Image as Rows};
@@ -34,6 +41,7 @@ fn judge_of_requests<S: Alter>(
     version: Version,
 ) -> Result<(), ReadFault>
     ensures reads { Reads S.Store (λ db _. (layout : SomeLayout) (of : SomeVersion) → db.schema ≡ schema_of layout of → of ≡ version → (image : Rows) × ShowsRequests layout version db image.requests image.moves image.tallies image.approvals image.cargo × AllByRecursion IsToldRequest image.requests) conn.old conn.new result }
+    ensures back { HasCleanDisk (state S.Store conn.new) → (of : SomeVersion) (ledger : Ledger) → of ≡ version → HoldsAs of (state S.Store conn.old).now ledger → IsWritable ledger.image → ReadsBack result }
 {
     let _ = load_requests(conn, alloc)?;
     judge_moves(conn, alloc)?;
@@ -46,6 +54,7 @@ fn judge_of_requests<S: Alter>(
 /// Reads what they tell of stacks.
 fn judge_of_stacks<S: Alter>(conn: &mut Connection<S>, alloc: Global) -> Result<(), ReadFault>
     ensures reads { Reads S.Store (λ db _. (layout : SomeLayout) (version : SomeVersion) → db.schema ≡ schema_of layout version → (image : Rows) × ShowsStacks layout db image.stacks image.stack_approvals) conn.old conn.new result }
+    ensures back { HasCleanDisk (state S.Store conn.new) → (version : SomeVersion) (ledger : Ledger) → HoldsAs version (state S.Store conn.old).now ledger → IsWritable ledger.image → ReadsBack result }
 {
     let _ = load_stacks(conn, alloc)?;
     let _ = load_stack_approvals(conn, alloc)?;
@@ -55,6 +64,7 @@ fn judge_of_stacks<S: Alter>(conn: &mut Connection<S>, alloc: Global) -> Result<
 /// Reads what they tell of procedures.
 fn judge_of_procedures<S: Alter>(conn: &mut Connection<S>, alloc: Global) -> Result<(), ReadFault>
     ensures reads { Reads S.Store (λ db _. (layout : SomeLayout) (version : SomeVersion) → db.schema ≡ schema_of layout version → (image : Rows) × ShowsProcedures layout db image.procedures image.steps image.executions image.records × AllByRecursion IsToldStep image.steps × AllByRecursion IsToldRecord image.records) conn.old conn.new result }
+    ensures back { HasCleanDisk (state S.Store conn.new) → (version : SomeVersion) (ledger : Ledger) → HoldsAs version (state S.Store conn.old).now ledger → IsWritable ledger.image → ReadsBack result }
 {
     let _ = load_procedures(conn, alloc)?;
     let _ = load_steps(conn, alloc)?;
@@ -70,6 +80,7 @@ pub(crate) fn judge_tables<S: Alter>(
     version: Version,
 ) -> Result<(), ReadFault>
     ensures reads { Reads S.Store (λ db _. (layout : SomeLayout) → db.schema ≡ schema_of layout version → (image : Rows) × ShowsAll layout version db image × IsTold image) conn.old conn.new result }
+    ensures back { HasCleanDisk (state S.Store conn.new) → (ledger : Ledger) → HoldsAs version (state S.Store conn.old).now ledger → IsWritableLedger ledger → ReadsBack result }
 {
     check_version(conn, version)?;
     judge_of_requests(conn, alloc, version)?;

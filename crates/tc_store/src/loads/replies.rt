@@ -1,4 +1,11 @@
 //! The table `reply`, judged in pages, of which none is kept.
+ghost use Rattle.tc_store.specs.ReadsBack.{ReadsBack};
+ghost use Rattle.sqlite.specs.Held.{state};
+ghost use Rattle.sqlite.specs.State.{HasCleanDisk};
+ghost use Rattle.tc_store.specs.Schema.{HasReplies};
+ghost use Rattle.tc_store.specs.Schema.{HoldsAs};
+ghost use Rattle.tc_store.specs.Ledgers.{Ledger};
+ghost use Rattle.tc_store.specs.Writable.{IsWritableLedger};
 ghost use Rattle.std.specs.Prelude.{◌≡◌, ℕ, List, drop, length, IfOk, OnOk};
 ghost use Rattle.std.specs.List.{AllByRecursion};
 ghost use Rattle.sqlite_value.specs.declared.value.Value.TheVariants.{Text};
@@ -72,6 +79,7 @@ fn judge_all(rows: &[Row]) -> Result<(), ReadFault>
 /// Reads the replies page by page, and judges each. The tables stay, also where one is none that a desk keeps.
 fn judge_pages<S: Alter>(conn: &mut Connection<S>) -> Result<(), ReadFault>
     ensures reads { Reads S.Store (λ db _. (layout : SomeLayout) (of : SomeVersion) → db.schema ≡ schema_of layout of → AreJudged layout of db) conn.old conn.new result }
+    ensures back { HasCleanDisk (state S.Store conn.new) → (of : SomeVersion) (ledger : Ledger) → HasReplies of → HoldsAs of (state S.Store conn.old).now ledger → IsWritableLedger ledger → ReadsBack result }
 {
     let mut first = i64::MIN;
     // each page ends on a greater number than the one before; no desk has so many replies that the pages end with the numbers
@@ -96,6 +104,7 @@ pub(crate) fn judge_replies<S: Alter>(
     version: Version,
 ) -> Result<(), ReadFault>
     ensures reads { Reads S.Store (λ db _. (layout : SomeLayout) (of : SomeVersion) → db.schema ≡ schema_of layout of → of ≡ version → AreJudged layout version db) conn.old conn.new result }
+    ensures back { HasCleanDisk (state S.Store conn.new) → (ledger : Ledger) → HoldsAs version (state S.Store conn.old).now ledger → IsWritableLedger ledger → ReadsBack result }
 {
     match version {
         Version::First => Ok(()),

@@ -1,4 +1,6 @@
 //! The table `request`, in order of number.
+ghost use Rattle.tc_store.specs.Writable.{IsWritable};
+ghost use Rattle.tc_store.specs.ReadsBack.{ReadsBack};
 ghost use Rattle.std.specs.Prelude.{◌≡◌, map, IfOk};
 ghost use Rattle.std.specs.List.{AllByRecursion};
 ghost use Rattle.sqlite.specs.State.{HasCleanDisk};
@@ -12,6 +14,7 @@ ghost use Rattle.tc_store.specs.Schema.{schema_of, HoldsAs};
 ghost use Rattle.tc_store.specs.Told.{IsTold, IsToldRequest};
 ghost use Rattle.tc_store.specs.Loads.{all_request_columns};
 ghost use Rattle.tc_store.specs.Shows.{ShowsRows};
+ghost use Rattle.tc_store.specs.Writable.{IsWritableRequest};
 ghost use Rattle.tc_store.specs.Reads.{Reads};
 
 use crate::faults::ReadFault;
@@ -30,6 +33,8 @@ impl Loads for PlacedRequest {
 
     ghost is_told = { IsToldRequest };
 
+    ghost is_writable = { IsWritableRequest };
+
     fn read(row: &Row) -> Result<PlacedRequest, ReadFault> {
         read_request(row)
     }
@@ -43,6 +48,7 @@ pub(crate) fn load_requests<S: Alter>(
     ensures rows { HasCleanDisk (state S.Store conn.new) → IfOk result (λ found. (version : SomeVersion) (ledger : Ledger) → IsTold ledger.image → HoldsAs version (state S.Store conn.old).now ledger → found.items ≡ ledger.image.requests) }
     ensures reads { Reads S.Store (λ db found. (layout : SomeLayout) (version : SomeVersion) → db.schema ≡ schema_of layout version → ShowsRows (db.trees request_tree) all_request_columns (map request_given found.items)) conn.old conn.new result }
     ensures told { IfOk result (λ found. AllByRecursion IsToldRequest found.items) }
+    ensures back { HasCleanDisk (state S.Store conn.new) → (version : SomeVersion) (ledger : Ledger) → HoldsAs version (state S.Store conn.old).now ledger → IsWritable ledger.image → ReadsBack result }
 {
     let rows = rows_of(conn, ALL, &[])?;
     read_all(alloc, rows.as_slice())

@@ -1,4 +1,6 @@
 //! The table `stack_approval`, in the order in which the approvals were given.
+ghost use Rattle.tc_store.specs.Writable.{IsWritable};
+ghost use Rattle.tc_store.specs.ReadsBack.{ReadsBack};
 ghost use Rattle.std.specs.Prelude.{◌≡◌, map, IfOk, ⊤};
 ghost use Rattle.sqlite.specs.State.{HasCleanDisk};
 ghost use Rattle.sqlite.specs.Held.{state};
@@ -10,6 +12,7 @@ ghost use Rattle.tc_store.specs.StackApprovals.{stack_approval_tree, stack_appro
 ghost use Rattle.tc_store.specs.Schema.{schema_of, HoldsAs};
 ghost use Rattle.tc_store.specs.Loads.{all_stack_approval_columns};
 ghost use Rattle.tc_store.specs.Shows.{ShowsRows};
+ghost use Rattle.tc_store.specs.Writable.{IsWritableStackApproval};
 ghost use Rattle.tc_store.specs.Reads.{Reads};
 
 use crate::cells::name_at;
@@ -27,6 +30,8 @@ impl Loads for StackApproval {
 
     ghost is_told = { λ _. ⊤ };
 
+    ghost is_writable = { IsWritableStackApproval };
+
     fn read(row: &Row) -> Result<StackApproval, ReadFault> {
         Ok(StackApproval {
             stack: name_at(row, 0)?,
@@ -42,6 +47,7 @@ pub(crate) fn load_stack_approvals<S: Alter>(
 ) -> Result<Vec<StackApproval>, ReadFault>
     ensures rows { HasCleanDisk (state S.Store conn.new) → IfOk result (λ found. (version : SomeVersion) (ledger : Ledger) → HoldsAs version (state S.Store conn.old).now ledger → found.items ≡ ledger.image.stack_approvals) }
     ensures reads { Reads S.Store (λ db found. (layout : SomeLayout) (version : SomeVersion) → db.schema ≡ schema_of layout version → ShowsRows (db.trees (stack_approval_tree layout)) all_stack_approval_columns (map stack_approval_values found.items)) conn.old conn.new result }
+    ensures back { HasCleanDisk (state S.Store conn.new) → (version : SomeVersion) (ledger : Ledger) → HoldsAs version (state S.Store conn.old).now ledger → IsWritable ledger.image → ReadsBack result }
 {
     let rows = rows_of(conn, ALL, &[])?;
     read_all(alloc, rows.as_slice())

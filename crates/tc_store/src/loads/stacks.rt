@@ -1,4 +1,6 @@
 //! The table `stack`, in the order in which the stacks were loaded.
+ghost use Rattle.tc_store.specs.Writable.{IsWritable};
+ghost use Rattle.tc_store.specs.ReadsBack.{ReadsBack};
 ghost use Rattle.std.specs.Prelude.{◌≡◌, map, IfOk, ⊤};
 ghost use Rattle.sqlite.specs.State.{HasCleanDisk};
 ghost use Rattle.sqlite.specs.Held.{state};
@@ -10,6 +12,7 @@ ghost use Rattle.tc_store.specs.Stacks.{stack_tree, stack_values};
 ghost use Rattle.tc_store.specs.Schema.{schema_of, HoldsAs};
 ghost use Rattle.tc_store.specs.Loads.{all_stack_columns};
 ghost use Rattle.tc_store.specs.Shows.{ShowsRows};
+ghost use Rattle.tc_store.specs.Writable.{IsWritableStack};
 ghost use Rattle.tc_store.specs.Reads.{Reads};
 
 use crate::cells::{flag_at, name_at};
@@ -27,6 +30,8 @@ impl Loads for LoadedStack {
 
     ghost is_told = { λ _. ⊤ };
 
+    ghost is_writable = { IsWritableStack };
+
     fn read(row: &Row) -> Result<LoadedStack, ReadFault> {
         Ok(LoadedStack {
             name: name_at(row, 0)?,
@@ -43,6 +48,7 @@ pub(crate) fn load_stacks<S: Alter>(
 ) -> Result<Vec<LoadedStack>, ReadFault>
     ensures rows { HasCleanDisk (state S.Store conn.new) → IfOk result (λ found. (version : SomeVersion) (ledger : Ledger) → HoldsAs version (state S.Store conn.old).now ledger → found.items ≡ ledger.image.stacks) }
     ensures reads { Reads S.Store (λ db found. (layout : SomeLayout) (version : SomeVersion) → db.schema ≡ schema_of layout version → ShowsRows (db.trees (stack_tree layout)) all_stack_columns (map stack_values found.items)) conn.old conn.new result }
+    ensures back { HasCleanDisk (state S.Store conn.new) → (version : SomeVersion) (ledger : Ledger) → HoldsAs version (state S.Store conn.old).now ledger → IsWritable ledger.image → ReadsBack result }
 {
     let rows = rows_of(conn, ALL, &[])?;
     read_all(alloc, rows.as_slice())

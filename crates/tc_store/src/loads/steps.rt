@@ -1,4 +1,6 @@
 //! The table `step`, in the order in which the steps were loaded.
+ghost use Rattle.tc_store.specs.Writable.{IsWritable};
+ghost use Rattle.tc_store.specs.ReadsBack.{ReadsBack};
 ghost use Rattle.std.specs.Prelude.{◌≡◌, map, IfOk};
 ghost use Rattle.std.specs.List.{AllByRecursion};
 ghost use Rattle.sqlite.specs.State.{HasCleanDisk};
@@ -12,6 +14,7 @@ ghost use Rattle.tc_store.specs.Schema.{schema_of, HoldsAs};
 ghost use Rattle.tc_store.specs.Told.{IsTold, IsToldStep};
 ghost use Rattle.tc_store.specs.Loads.{all_step_columns};
 ghost use Rattle.tc_store.specs.Shows.{ShowsRows};
+ghost use Rattle.tc_store.specs.Writable.{IsWritableStep};
 ghost use Rattle.tc_store.specs.Reads.{Reads};
 
 use crate::cells::{flag_at, name_at, number_at, released_at, step_text_at};
@@ -28,6 +31,8 @@ impl Loads for ProcedureStep {
     ghost shown = { step_values };
 
     ghost is_told = { IsToldStep };
+
+    ghost is_writable = { IsWritableStep };
 
     fn read(row: &Row) -> Result<ProcedureStep, ReadFault> {
         Ok(ProcedureStep {
@@ -48,6 +53,7 @@ pub(crate) fn load_steps<S: Alter>(
     ensures rows { HasCleanDisk (state S.Store conn.new) → IfOk result (λ found. (version : SomeVersion) (ledger : Ledger) → IsTold ledger.image → HoldsAs version (state S.Store conn.old).now ledger → found.items ≡ ledger.image.steps) }
     ensures reads { Reads S.Store (λ db found. (layout : SomeLayout) (version : SomeVersion) → db.schema ≡ schema_of layout version → ShowsRows (db.trees (step_tree layout)) all_step_columns (map step_values found.items)) conn.old conn.new result }
     ensures told { IfOk result (λ found. AllByRecursion IsToldStep found.items) }
+    ensures back { HasCleanDisk (state S.Store conn.new) → (version : SomeVersion) (ledger : Ledger) → HoldsAs version (state S.Store conn.old).now ledger → IsWritable ledger.image → ReadsBack result }
 {
     let rows = rows_of(conn, ALL, &[])?;
     read_all(alloc, rows.as_slice())

@@ -1,4 +1,6 @@
 //! The table `tally`, in order of place.
+ghost use Rattle.tc_store.specs.Writable.{IsWritable};
+ghost use Rattle.tc_store.specs.ReadsBack.{ReadsBack};
 ghost use Rattle.std.specs.Prelude.{◌≡◌, map, IfOk, ⊤};
 ghost use Rattle.sqlite.specs.State.{HasCleanDisk};
 ghost use Rattle.sqlite.specs.Held.{state};
@@ -10,6 +12,7 @@ ghost use Rattle.tc_store.specs.Tallies.{tally_tree, tally_given};
 ghost use Rattle.tc_store.specs.Schema.{schema_of, HoldsAs};
 ghost use Rattle.tc_store.specs.Loads.{all_tally_columns};
 ghost use Rattle.tc_store.specs.Shows.{ShowsRows};
+ghost use Rattle.tc_store.specs.Writable.{IsWritableTally};
 ghost use Rattle.tc_store.specs.Reads.{Reads};
 
 use crate::cells::{number_at, place_at};
@@ -27,6 +30,8 @@ impl Loads for Tally {
 
     ghost is_told = { λ _. ⊤ };
 
+    ghost is_writable = { IsWritableTally };
+
     fn read(row: &Row) -> Result<Tally, ReadFault> {
         Ok(Tally {
             place: place_at(row, 0)?,
@@ -42,6 +47,7 @@ pub(crate) fn load_tallies<S: Alter>(
 ) -> Result<Vec<Tally>, ReadFault>
     ensures rows { HasCleanDisk (state S.Store conn.new) → IfOk result (λ found. (version : SomeVersion) (ledger : Ledger) → HoldsAs version (state S.Store conn.old).now ledger → found.items ≡ ledger.image.tallies) }
     ensures reads { Reads S.Store (λ db found. (layout : SomeLayout) (version : SomeVersion) → db.schema ≡ schema_of layout version → ShowsRows (db.trees (tally_tree layout)) all_tally_columns (map tally_given found.items)) conn.old conn.new result }
+    ensures back { HasCleanDisk (state S.Store conn.new) → (version : SomeVersion) (ledger : Ledger) → HoldsAs version (state S.Store conn.old).now ledger → IsWritable ledger.image → ReadsBack result }
 {
     let rows = rows_of(conn, ALL, &[])?;
     read_all(alloc, rows.as_slice())

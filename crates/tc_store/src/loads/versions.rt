@@ -1,4 +1,9 @@
 //! The table `meta`: the version of the schema.
+ghost use Rattle.sqlite.specs.Held.{state};
+ghost use Rattle.sqlite.specs.State.{HasCleanDisk};
+ghost use Rattle.tc_store.specs.Schema.{HoldsAs};
+ghost use Rattle.tc_store.specs.Ledgers.{Ledger};
+ghost use Rattle.tc_store.specs.ReadsBack.{OnlyMemory, ReadsBack};
 ghost use Rattle.std.specs.Prelude.{◌≡◌, pos, true, codes, length, [], ◌∷◌, IfOk};
 ghost use Rattle.std.specs.List.{AllByRecursion};
 ghost use Rattle.sqlite_value.specs.declared.value.Value.TheVariants.{Int, Text};
@@ -34,6 +39,8 @@ fn version_number(version: Version) -> u32
 /// Whether a row names this version of the schema.
 fn is_version(row: &Row, version: Version) -> Result<bool, ReadFault>
     ensures told { IfOk result (λ told. told ≡ true → (column row.now 0 ≡ Text (codes "schema")) × (column row.now 1 ≡ Int (pos (version_number version)))) }
+    ensures found { row.now ≡ version_shown version → IfOk result (λ told. told ≡ true) }
+    ensures back { row.now ≡ version_shown version → OnlyMemory result }
 {
     let name = text_at(row, 0)?;
     let number = number_at(row, 1)?;
@@ -43,6 +50,8 @@ fn is_version(row: &Row, version: Version) -> Result<bool, ReadFault>
 /// Whether these rows are the one that names this version of the schema.
 fn are_version(rows: &[Row], version: Version) -> Result<bool, ReadFault>
     ensures told { IfOk result (λ told. told ≡ true → AllByRecursion (λ (row : Values). length row ≡ 2) rows.now → rows.now ≡ version_shown version ∷ []) }
+    ensures found { rows.now ≡ version_shown version ∷ [] → IfOk result (λ told. told ≡ true) }
+    ensures back { rows.now ≡ version_shown version ∷ [] → OnlyMemory result }
 {
     let is_one = rows.len() == 1;
     if is_one {
@@ -57,6 +66,7 @@ pub(crate) fn check_version<S: Alter>(
     version: Version,
 ) -> Result<(), ReadFault>
     ensures reads { Reads S.Store (λ db _. (layout : SomeLayout) (of : SomeVersion) → db.schema ≡ schema_of layout of → ShowsRows (db.trees meta_tree) all_version_columns (version_shown version ∷ [])) conn.old conn.new result }
+    ensures back { HasCleanDisk (state S.Store conn.new) → (ledger : Ledger) → HoldsAs version (state S.Store conn.old).now ledger → ReadsBack result }
 {
     let rows = rows_of(conn, ALL, &[])?;
     if are_version(rows.as_slice(), version)? {

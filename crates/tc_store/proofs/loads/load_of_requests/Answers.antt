@@ -51,3 +51,23 @@ returns-clause-rows g c clean of ledger same told held =
       c.in_ok-approvals.ensures.rows at4.0 of ledger at3.1,
       c.in_ok-cargo.ensures.rows clean of ledger same at4.1,
     )
+
+pub returns-in_err-requests-clause-back : goal.returns-in_err-requests-clause-back
+returns-in_err-requests-clause-back g c clean of ledger same held writable =
+    search (rules, c.in_err-requests.ensures.back clean of ledger held writable)
+
+pub returns-in_err-moves-clause-back : goal.returns-in_err-moves-clause-back
+returns-in_err-moves-clause-back g c clean of ledger same held writable =
+    search (rules, c.in_err-moves.ensures.back clean of ledger (held_then g.S.Store c.in_ok-requests.ensures.reads c.load_moves.ensures.reads clean of ledger held).1 writable)
+
+pub returns-in_err-tallies-clause-back : goal.returns-in_err-tallies-clause-back
+returns-in_err-tallies-clause-back g c clean of ledger same held writable =
+    search (rules, c.in_err-tallies.ensures.back clean of ledger (held_then g.S.Store (reads_then g.S.Store c.in_ok-requests.ensures.reads c.in_ok-moves.ensures.reads) c.load_tallies.ensures.reads clean of ledger held).1 writable)
+
+pub returns-in_err-approvals-clause-back : goal.returns-in_err-approvals-clause-back
+returns-in_err-approvals-clause-back g c clean of ledger same held writable =
+    search (rules, c.in_err-approvals.ensures.back clean of ledger (held_then g.S.Store (reads_then g.S.Store (reads_then g.S.Store c.in_ok-requests.ensures.reads c.in_ok-moves.ensures.reads) c.in_ok-tallies.ensures.reads) c.load_approvals.ensures.reads clean of ledger held).1 writable)
+
+pub returns-in_err-cargo-clause-back : goal.returns-in_err-cargo-clause-back
+returns-in_err-cargo-clause-back g c clean of ledger same held writable =
+    search (rules, c.in_err-cargo.ensures.back clean of ledger same (held_then g.S.Store (reads_then g.S.Store (reads_then g.S.Store (reads_then g.S.Store c.in_ok-requests.ensures.reads c.in_ok-moves.ensures.reads) c.in_ok-tallies.ensures.reads) c.in_ok-approvals.ensures.reads) c.load_cargo.ensures.reads clean of ledger held).1 writable)

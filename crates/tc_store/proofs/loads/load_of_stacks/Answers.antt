@@ -22,3 +22,10 @@ pub returns-clause-rows : goal.returns-clause-rows
 returns-clause-rows g c clean version ledger told held =
     let at1 = held_then g.S.Store c.in_ok-stacks.ensures.reads c.in_ok-approvals.ensures.reads clean version ledger held in
     (c.in_ok-stacks.ensures.rows at1.0 version ledger held, c.in_ok-approvals.ensures.rows clean version ledger at1.1)
+
+pub returns-in_err-stacks-clause-back : goal.returns-in_err-stacks-clause-back
+returns-in_err-stacks-clause-back g c clean version ledger held writable = search (rules, c.in_err-stacks.ensures.back clean version ledger held writable)
+
+pub returns-in_err-approvals-clause-back : goal.returns-in_err-approvals-clause-back
+returns-in_err-approvals-clause-back g c clean version ledger held writable =
+    search (rules, c.in_err-approvals.ensures.back clean version ledger (held_then g.S.Store c.in_ok-stacks.ensures.reads c.load_stack_approvals.ensures.reads clean version ledger held).1 writable)

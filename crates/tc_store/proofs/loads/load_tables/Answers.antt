@@ -52,3 +52,23 @@ returns-clause-image g c clean of ledger told held =
     let room = c.in_ok-room.ensures.rows at3.0 of ledger told at2.1 in
     let log = c.in_ok-log.ensures.rows at4.0 of ledger told at3.1 in
     rw (book.0, book.1, book.2, book.3, book.4, room.0, room.1, log.0, log.1, log.2, log.3) refl
+
+pub returns-in_err-check_version-clause-back : goal.returns-in_err-check_version-clause-back
+returns-in_err-check_version-clause-back g c clean ledger held writable =
+    search (rules, c.in_err-check_version.ensures.back clean ledger held)
+
+pub returns-in_err-book-clause-back : goal.returns-in_err-book-clause-back
+returns-in_err-book-clause-back g c clean ledger held writable =
+    search (rules, c.in_err-book.ensures.back clean c.args.version ledger refl (held_then g.S.Store c.in_ok-check_version.ensures.reads c.load_of_requests.ensures.reads clean c.args.version ledger held).1 writable.image)
+
+pub returns-in_err-room-clause-back : goal.returns-in_err-room-clause-back
+returns-in_err-room-clause-back g c clean ledger held writable =
+    search (rules, c.in_err-room.ensures.back clean c.args.version ledger (held_then g.S.Store (reads_then g.S.Store c.in_ok-check_version.ensures.reads c.in_ok-book.ensures.reads) c.load_of_stacks.ensures.reads clean c.args.version ledger held).1 writable.image)
+
+pub returns-in_err-log-clause-back : goal.returns-in_err-log-clause-back
+returns-in_err-log-clause-back g c clean ledger held writable =
+    search (rules, c.in_err-log.ensures.back clean c.args.version ledger (held_then g.S.Store (reads_then g.S.Store (reads_then g.S.Store c.in_ok-check_version.ensures.reads c.in_ok-book.ensures.reads) c.in_ok-room.ensures.reads) c.load_of_procedures.ensures.reads clean c.args.version ledger held).1 writable.image)
+
+pub returns-in_err-judge_replies-clause-back : goal.returns-in_err-judge_replies-clause-back
+returns-in_err-judge_replies-clause-back g c clean ledger held writable =
+    search (rules, c.in_err-judge_replies.ensures.back clean ledger (held_then g.S.Store (reads_then g.S.Store (reads_then g.S.Store (reads_then g.S.Store c.in_ok-check_version.ensures.reads c.in_ok-book.ensures.reads) c.in_ok-room.ensures.reads) c.in_ok-log.ensures.reads) c.judge_replies.ensures.reads clean c.args.version ledger held).1 writable)

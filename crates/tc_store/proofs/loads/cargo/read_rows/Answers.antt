@@ -1,6 +1,8 @@
 use Rattle.std.proofs.Common.{rules, ◌∙◌, refl}
 use Rattle.tc_store.proofs.ReadLemmas.{if_ok}
 use Rattle.sqlite.specs.Held.{state}
+use Rattle.tc_store.specs.Schema.{layout_in}
+use Rattle.tc_store.proofs.FindLemmas.{memory_back}
 use Rattle.tc_store.proofs.LoadLemmas.{all_told}
 use Rattle.tc_store.specs.Cargo.{cargo_tree, cargo_values}
 use Rattle.tc_store.specs.Loads.{all_cargo_text, all_cargo_columns}
@@ -23,3 +25,12 @@ returns-clause-reads g c = record {
   same = search rules;
   left = search rules;
 }
+
+pub returns-in_err-rows-clause-back : goal.returns-in_err-rows-clause-back
+returns-in_err-rows-clause-back g c clean version ledger has held writable =
+    search (rules, c.in_err-rows.ensures.back clean (layout_in (state g.S.Store c.args.conn.now).now) version held.schema)
+
+pub returns-clause-back : goal.returns-clause-back
+returns-clause-back g c clean version ledger has held writable =
+    memory_back c.read_all.result
+    (c.read_all.ensures.back ledger.image.cargo writable.cargo (c.as_slice.ensures.value ∙ all_cargo_shown version ledger (state g.S.Store c.args.conn.now) (state g.S.Store c.rows_of.new.conn) c.in_ok-rows.rows.items has held (c.in_ok-rows.ensures.rows clean)))

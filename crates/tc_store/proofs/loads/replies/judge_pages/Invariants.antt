@@ -17,4 +17,4 @@ invariant-pages g l =
     × Spares g.S.Store l.initial.conn l.conn
     × (HasCleanDisk (state g.S.Store l.conn) → (layout : Layout) (of : Version) → HasReplies of → (state g.S.Store l.initial.conn).now.schema ≡ schema_of layout of
     → AreNumbered ((state g.S.Store l.initial.conn).now.trees (reply_tree layout))
-    → AreJudgedTo ((state g.S.Store l.initial.conn).now.trees (reply_tree layout)) l.first)
+    → AreJudgedTo ((state g.S.Store l.initial.conn).now.trees (reply_tree layout)) l.counter l.first)
