@@ -28,10 +28,10 @@ def edit_text(file: str, old: str, new: str) -> str:
     return f"file: {file}\nold: {old.strip(chr(10))}\nnew: {new.strip(chr(10))}\n"
 
 
-def ran(top: str, *words: str, tools: str = TOOLS, path: str = "") -> tuple[int, list[str]]:
-    """What tools/edits/edits.py answers to these words, and its status."""
+def ran(top: str, *words: str, tools: str = TOOLS, path: str = "", tool: str = "edits.py") -> tuple[int, list[str]]:
+    """What a tool of tools/edits answers to these words, and its status."""
     env = {**os.environ, "PATH": path + os.environ["PATH"], "PYTHONDONTWRITEBYTECODE": "1"}
-    command = [sys.executable, f"{tools}/edits.py", *words]
+    command = [sys.executable, f"{tools}/{tool}", *words]
     it = subprocess.run(command, cwd=top, capture_output=True, text=True, errors="replace", env=env)
     return it.returncode, it.stdout.splitlines() or [it.stderr]
 
