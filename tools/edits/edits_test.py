@@ -12,7 +12,6 @@ from edit_checks import Report, told
 from edits_test_base import Held, edit_text, lay, ran, recorded
 from edits_test_files import changes
 from edits_test_items import changes as by_items, repository, taken_apart
-from edits_test_telling import told_of
 
 CRATE = {
     "src/lib.rt": """\
@@ -267,7 +266,7 @@ def reasons() -> Iterator[Held]:
 
 def main() -> int:
     passed = failed = 0
-    for name, is_well, said in [*reasons(), *verdicts(), *records(), *changes(), *taken_apart(), *by_items(), *repository(), *told_of()]:
+    for name, is_well, said in [*reasons(), *verdicts(), *records(), *changes(), *taken_apart(), *by_items(), *repository()]:
         passed, failed = passed + bool(is_well), failed + (not is_well)
         if not is_well:
             print(f"edits_test: {name}: it said {said}", flush=True)

@@ -1,4 +1,4 @@
-"""What tools/edits/telling.py must say of a small crate whose functions have answers by hand."""
+"""What tools/edits/telling.py must say of a small crate whose functions have answers by hand. It is run by itself."""
 import re
 import tempfile
 from collections.abc import Iterator
@@ -102,3 +102,8 @@ def told_of() -> Iterator[Held]:
         _, lines = ran(top, "--list", tool="telling.py")
         listed = ["planted: 3 edits in 3 functions with answers, 2 with a control", f"     no control: {LIB} double"]
         yield "telling, a function without a control", lines[:2] == listed, lines
+
+
+if __name__ == "__main__":
+    for held, is_well, told in told_of():
+        print(f"{'ok  ' if is_well else 'FAIL'} {held}{'' if is_well else f': {told}'}", flush=True)

@@ -131,7 +131,13 @@ class Telling:
         """The goals that are open for the controls of these functions."""
         texts = joined([self.controls[it] for it in functions], self.crate.folder)
         report = self.check(f"{len(functions)} controls{label}", {**texts, **more}, functions)
-        return {it: goals_of(it, self.crate, report) for it in functions}
+        found = {it: goals_of(it, self.crate, report) for it in functions}
+        names = {*report.proved(), *report.not_proved()}
+        unclear = [it for it in functions if not found[it] and path_of(it, self.crate.name, names) not in report.proved()]
+        if len(unclear) == len(functions):
+            return {it: {"no goal is told": "it is not proved"} for it in functions}
+        # What calls a function that is not proved is tried once more, without that one's control.
+        return {**found, **(self.of_controls(unclear, label, more) if unclear else {})}
 
     def tell(self, edit: Edit, verdict: str, why: str) -> None:
         """Prints the verdict on an edit."""
