@@ -40,6 +40,7 @@ status_of_refusal refusal.UnknownProcedure = status.Missing
 status_of_refusal refusal.TooLong = status.Large
 status_of_refusal refusal.DeskFull = status.Conflict
 status_of_refusal refusal.BadActivity = status.Conflict
+status_of_refusal refusal.Unflyable = status.Conflict
 status_of_refusal refusal.Memory = status.Unavailable
 status_of_refusal refusal.Store = status.Unavailable
 status_of_refusal refusal.Stopped = status.Unavailable

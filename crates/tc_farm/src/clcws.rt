@@ -64,6 +64,7 @@ impl Clcw {
         ensures valid { IsSome result ↔ IsValid word vc }
         ensures back { IfSome result (λ c. word_of c ≡ without_ignored word) }
         ensures channel { IfSome result (λ c. c.vc ≡ vc) }
+        ensures range { IfSome result (λ c. c.report < 2 ^ 8) }
         ensures again { (c : Clcw) → c.report < 2 ^ 8 → word ≡ word_of c → vc ≡ c.vc → result ≡ Some c }
     {
         if Clcw::bits(word, 31, 1) != 0

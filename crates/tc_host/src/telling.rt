@@ -148,6 +148,7 @@ fn meaning(refusal: Refusal, line: &[u8]) -> &'static str {
         Refusal::TooLong => "the text is too long",
         Refusal::DeskFull => "a limit of the desk is reached",
         Refusal::BadActivity => "the request may not be the activity or target of this one",
+        Refusal::Unflyable => "the request does not fit the profile of the link",
         Refusal::Memory => "memory was refused; nothing changed",
         Refusal::Store => "the database failed, and the desk is stopped",
         Refusal::Stopped => "the desk is stopped",
@@ -157,7 +158,7 @@ fn meaning(refusal: Refusal, line: &[u8]) -> &'static str {
 }
 
 /// All refusals that an answer may tell.
-const REFUSALS: [Refusal; 22] = [
+const REFUSALS: [Refusal; 23] = [
     Refusal::BadText,
     Refusal::UnknownRequest,
     Refusal::WrongPlace,
@@ -177,6 +178,7 @@ const REFUSALS: [Refusal; 22] = [
     Refusal::TooLong,
     Refusal::DeskFull,
     Refusal::BadActivity,
+    Refusal::Unflyable,
     Refusal::Memory,
     Refusal::Store,
     Refusal::Stopped,

@@ -48,6 +48,8 @@ pub enum Refusal {
     DeskFull,
     /// 19: the request may not be the activity or target of this one.
     BadActivity,
+    /// 22: the request does not fit the link.
+    Unflyable,
     /// 30: memory was refused; nothing changed.
     Memory,
     /// 31: the database failed; the tables are as before, and the desk is stopped.
@@ -97,6 +99,7 @@ impl Refusal {
             Refusal::TooLong => 17,
             Refusal::DeskFull => 18,
             Refusal::BadActivity => 19,
+            Refusal::Unflyable => 22,
             Refusal::Memory => 30,
             Refusal::Store => 31,
             Refusal::Stopped => 32,
@@ -129,6 +132,7 @@ impl Refusal {
             Refusal::TooLong => "TooLong",
             Refusal::DeskFull => "DeskFull",
             Refusal::BadActivity => "BadActivity",
+            Refusal::Unflyable => "Unflyable",
             Refusal::Memory => "Memory",
             Refusal::Store => "Store",
             Refusal::Stopped => "Stopped",
