@@ -34,7 +34,10 @@ packed() {
 # paged FILE PATH: the same of a page, whose commands and names of files are those that hold where the package is installed.
 paged() {
     sed -E 's,\./tcdesk([ ;]|$),tcdesk\1,g
-        s,(^|[^/])docs/(OPERATORS|SCALE)\.md,\1/usr/share/doc/tcdesk/\2.md.gz,g
+        s,(^|[^/])docs/(manual/)?([A-Za-z-]+)\.md,\1/usr/share/doc/tcdesk/\2\3.md.gz,g
+        s,\]\(((manual/|\.\./)?[A-Za-z-]+)\.md,](\1.md.gz,g
+        s,\]\(\.\./((\.\./)?)deploy/(nginx|postgres|backup|replica)/README\.md,](\1\3.md.gz,g
+        s,man docs/tcdesk\.1,man tcdesk,
         s,(^|[^/])deploy/README\.md,\1/usr/share/doc/tcdesk/README.Debian.gz,g
         s,(^|[^/])deploy/(nginx|postgres|backup|replica)/README\.md,\1/usr/share/doc/tcdesk/\2.md.gz,g
         s,(^|[^/])deploy/(nginx/authority|nginx/\{|nginx`|postgres/tables|postgres/load|postgres`|replica/systemd/|replica/replica\.py|replica/[a-z]*\.sh|replica`),\1/usr/share/tcdesk/\2,g
@@ -58,7 +61,7 @@ changelog() {
 
 # The page of the manual, where the package has what it names.
 page() {
-    sed 's,docs/OPERATORS\.md,/usr/share/doc/tcdesk/OPERATORS.md.gz,; s,examples/,/usr/share/doc/tcdesk/examples/,' "$top/docs/tcdesk.1"
+    sed -E 's,docs/((manual/)?[A-Za-z-]+)\.md,/usr/share/doc/tcdesk/\1.md.gz,g; s,examples/,/usr/share/doc/tcdesk/examples/,' "$top/docs/tcdesk.1"
 }
 
 (($# <= 1)) || refuse "one folder may be named"
@@ -103,8 +106,7 @@ for file in auth certificates lab; do put 755 "$top/deploy/replica/$file.sh" "us
 for file in "$top"/deploy/replica/systemd/{*.default,*.conf}; do put 644 "$file" "usr/share/tcdesk/replica/systemd/${file##*/}"; done
 page >"$work/page" && packed "$work/page" usr/share/man/man1/tcdesk.1.gz
 changelog >"$work/changelog" && packed "$work/changelog" "$doc/changelog.gz"
-paged "$top/docs/OPERATORS.md" "$doc/OPERATORS.md.gz"
-paged "$top/docs/SCALE.md" "$doc/SCALE.md.gz"
+for file in "$top"/docs/{manual/*,LINK,SCALE}.md; do paged "$file" "$doc/${file#"$top/docs/"}.gz"; done
 paged "$top/deploy/README.md" "$doc/README.Debian.gz"
 for file in nginx postgres backup replica; do paged "$top/deploy/$file/README.md" "$doc/$file.md.gz"; done
 sed 's/^$/./; s/^/ /' "$top/NOTICE" >"$work/notice" || exit 2

@@ -150,7 +150,8 @@ file_cases() {
         esac
         tell "${name#"$top/"}"
     done
-    for page in OPERATORS.md=docs/OPERATORS.md SCALE.md=docs/SCALE.md README.Debian=deploy/README.md {nginx,postgres,backup,replica}.md; do
+    for page in "$top"/docs/{manual/*,LINK,SCALE}.md README.Debian=deploy/README.md {nginx,postgres,backup,replica}.md; do
+        [[ $page != "$top"/* ]] || page=${page#"$top/docs/"}=${page#"$top/"}
         [[ $page == *=* ]] || page=$page=deploy/${page%.md}/README.md
         from=${page#*=} page=${page%%=*}
         gzip -dc "$doc/$page.gz" >"$work/page.md" 2>"$work/err" && [[ $(wc -l <"$work/page.md") == "$(wc -l <"$top/$from")" ]] &&
@@ -283,7 +284,7 @@ user_cases() {
     tell "a copy, and its report"
     in_root "man -P cat tcdesk" && grep -q 'spacecraft telecommand desk' "$work/out"
     tell "the page"
-    in_root "ls \$(man -P cat tcdesk | grep -oE '/usr/share/doc/tcdesk/[A-Za-z/.-]*[a-z]' | sort -u)" && grep -q OPERATORS.md.gz "$work/out" &&
+    in_root "ls \$(man -P cat tcdesk | grep -oE '/usr/share/doc/tcdesk/[A-Za-z/.-]*[a-z]' | sort -u)" && grep -q manual/README.md.gz "$work/out" &&
         grep -q examples/monday.tc "$work/out"
     tell "each file that the page names is there"
     # shellcheck disable=SC2016

@@ -139,7 +139,7 @@ def posted(cases: Cases, folder: str) -> None:
 
 def calling(folder: str, proxy: Proxy, person: str) -> "subprocess.Popen[str]":
     """The function, as it is called to enter a request of this person."""
-    found = re.search(r"^post\(\) \{\n.*?^\}\n", text_of(f"{TOP}/docs/OPERATORS.md"), re.DOTALL | re.MULTILINE)
+    found = re.search(r"^post\(\) \{\n.*?^\}\n", text_of(f"{TOP}/docs/manual/over-http.md"), re.DOTALL | re.MULTILINE)
     if not found:
         raise Fault("the manual has no function post")
     own = f'curl -s --netrc-file "$1.netrc" --cacert tcdesk.pem --resolve {SITE}:{proxy.port}:{HERE} '

@@ -37,11 +37,14 @@ def told_roles() -> dict[str, str]:
 
 
 def manual_words() -> set[str]:
-    """The first word of each act and question in the manual's table."""
-    found = re.search(r"^## Acts and questions\n(.*?)^## ", text_of(f"{TOP}/docs/OPERATORS.md"), re.DOTALL | re.MULTILINE)
-    if not found:
-        raise Fault("the manual has no acts")
-    return {word for row in re.findall(r"^\| (`.*?) \|", found[1], re.MULTILINE) for word in re.findall(r"`([a-z]+)", row)}
+    """The first word of each act and question in the manual's two tables."""
+    words: set[str] = set()
+    for page, head in (("acts", "The acts"), ("questions", "The questions")):
+        found = re.search(rf"^## {head}\n(.*?)^## ", text_of(f"{TOP}/docs/manual/{page}.md"), re.DOTALL | re.MULTILINE)
+        if not found:
+            raise Fault(f"the manual has no section {head}")
+        words |= set(re.findall(r"^\| `([a-z]+)", found[1], re.MULTILINE))
+    return words
 
 
 def roles(cases: Cases, folder: str) -> None:

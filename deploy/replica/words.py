@@ -1,7 +1,7 @@
 """What a desk refuses as it stands, whatever it holds: such a request never comes into the log. Where this reader is in doubt it refuses nothing: then all desks do,
 alike, at its place.
 
-It knows the desk's paths and limits (`docs/OPERATORS.md`), and a body by what every post has to have.
+It knows the desk's paths and limits (`docs/manual/http.md`), and a body by what every post has to have.
 """
 import json
 import re

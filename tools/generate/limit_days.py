@@ -1,5 +1,5 @@
 """Days at the limits of a desk: the lines of a script, and at each limit what is answered there and one past it, written by hand. The plain desk
-says the rest. The limits are those of docs/OPERATORS.md, "Limits".
+says the rest. The limits are those of docs/manual/limits.md.
 """
 from typing import Iterable, NamedTuple
 

@@ -1,5 +1,5 @@
 #!/bin/bash
-# Serves a desk and sends it the lines of curl that docs/OPERATORS.md prints, in its section "The desk over HTTP": each has to give what stands behind it there.
+# Serves a desk and sends it the lines of curl that docs/manual/over-http.md prints, in order: each has to give the block that follows it there.
 # Then the function that is printed there, where answers are lost: a proxy takes them, or the server is killed. Then what lines of curl do not send: requests
 # that are cut short, peers that go away, and one that sends more than it said. Ends with how many passed; status 1 where one failed. Wants curl (7.82 or
 # later) and python3.
@@ -66,8 +66,6 @@ while True:
 
 # each block of a shell with curl in it, and the block behind it
 awk -v work="$work" '
-    /^## / { inside = $0 == "## The desk over HTTP" }
-    !inside { next }
     /^```/ {
         if (kind != "") { close(file); kind = ""; next }
         kind = $0 == "```sh" ? "sh" : $0 == "```" ? "out" : "other"
@@ -76,13 +74,13 @@ awk -v work="$work" '
         next
     }
     kind == "sh" || kind == "out" { print >file }
-' "$top/docs/OPERATORS.md"
+' "$top/docs/manual/over-http.md"
 cases=()
 for case in "$work"/case-*.sh; do
     [[ -e ${case%.sh}.out ]] && grep -q curl "$case" && cases+=("$case")
 done
 ((${#cases[@]} >= 10))
-tell "the section has its lines: ${#cases[@]}"
+tell "the page has its lines: ${#cases[@]}"
 # each line of curl is a connection, and so is each call of the function
 sent=$(cat "${cases[@]}" | grep -cE '^( {4})?curl|^post ')
 start "$work/desk.db" "$sent"

@@ -1,16 +1,16 @@
 #!/bin/bash
 # Whether docs/tcdesk.1 says what the program and the manual say: tools/pages/man_cases.sh [PROGRAM], at any place.
 #
-# Where mandoc or man is installed, the page is rendered without a warning. The refusals of the page (number, name, and what to do then) are those of the
-# table of docs/OPERATORS.md. The commands of its synopsis, and the options and words of each, are those that `--help` of the program and of
-# each command names, and so are the options that its description lists. Each limit stands there as in docs/OPERATORS.md. Its example of a desk over
-# HTTP is run as a script, at a port that nobody uses; curl is needed for that.
+# The page is rendered without a warning, if mandoc or man is installed. Its acts, its questions, its refusals (number, name, and what to do then) and its
+# limits are those of the tables in docs/manual/. The commands of its synopsis, and the options and words of each, are those that `--help` of the program
+# and of each command names, and so are the options that its description lists. Its example of a desk over HTTP is run as a script, at a port that nobody
+# uses; curl is needed for that.
 #
 # A difference is printed, and makes the status 1. The last line counts what was compared.
 set -u
 top=$(cd "$(dirname "${BASH_SOURCE[0]}")/../.." && pwd) || exit 1
 program=$(readlink -m "${1:-$top/crates/tc_cli/out/tc_cli}")
-manual=$top/docs/OPERATORS.md
+manual=$top/docs/manual
 page=$top/docs/tcdesk.1
 [[ -x $program ]] || { echo "man: $program is not built" >&2; exit 1; }
 command -v curl >/dev/null || { echo "man: curl is not installed (Debian: curl)" >&2; exit 1; }
@@ -53,24 +53,35 @@ section() {
     awk -v head="$2" -v kind="${2%% *} " 'index($0, kind) == 1 { inside = $0 == head; next } inside' "$1"
 }
 
-# rows HEAD: the rows of the table of a section of the manual, without its two first lines.
+# rows PAGE HEAD: the rows of the table of a section of a page of the manual, without its two first lines, marks of quoting and links.
 rows() {
-    section "$manual" "$1" | grep '^|' | tail -n +3
+    section "$manual/$1.md" "$2" | grep '^|' | tail -n +3 | tr -d '"`' | sed -E 's/\[([^]]*)\]\([^)]*\)/\1/g'
 }
 
-# Each refusal, and what to do then, without the marks of quoting and in small letters: "number name: sentence."
-rows '## Refusals' | tr -d '"`' | awk -F ' *[|] *' '{
+# items SECTION: the items of a list of the man page, each in a line of small letters, without marks of quoting and macros.
+items() {
+    section "$page" ".Sh $1" | sed 's/\\([oclr]q//g' | awk '
+        /^\.(It|El)/ { if (said != "") print tolower(said); said = substr($0, 5) ":"; next }
+        said != "" { said = said " " $0 }' | sed -E 's/(^| )(cm|ar) /\1/g'
+}
+
+# Each act and each question, and what it does: "words: sentence."
+for list in acts questions; do
+    rows "$list" "## The $list" | awk -F ' *[|] *' '{ print tolower($2 ": " $3 ".") }' >"$work/$list"
+    items "${list^^}" >"$work/$list.page"
+    compare "$list" "$work/$list" "$work/$list.page"
+done
+
+# Each refusal, and what to do then: "number name: sentence."
+rows refusals '# Refusals' | awk -F ' *[|] *' '{
     n = split($2, names, ", ")
     for (i = 1; i <= n; i++) print tolower(names[i] ": " $4 ".")
 }' >"$work/refusals"
-section "$page" '.Sh REFUSALS' | sed 's/\\([oclr]q//g' | awk '
-    /^\.(It|El)/ { if (said != "") print tolower(said); said = substr($0, 5) ":"; next }
-    said != "" { said = said " " $0 }' >"$work/refusals.page"
+items REFUSALS >"$work/refusals.page"
 compare refusals "$work/refusals" "$work/refusals.page"
 
-rows '## Limits' | awk -F ' *[|] *' '{ print tolower($2) ": at most " $3 "." }' >"$work/limits"
-section "$page" '.Sh LIMITS' | awk '/^\.It / { what = substr($0, 5); getline; print tolower(what ": " $0) }' >"$work/limits.page"
-sed -i 's/ACT/act/; s/.*/\L&/' "$work/limits" "$work/limits.page"
+rows limits '# Limits' | awk -F ' *[|] *' '{ print tolower($2 ": at most " $3 ".") }' >"$work/limits"
+items LIMITS >"$work/limits.page"
 compare limits "$work/limits" "$work/limits.page"
 
 # The commands, each with its options and words: "COMMAND" and "COMMAND WORD".
@@ -115,6 +126,6 @@ if [[ $(<"$work/answer") != '{"lines":["places 0: '*'"],"more":0,"refusal":0}' ]
 fi
 
 ((status == 0)) && said="as they stand elsewhere" || said="and they differ"
-echo "man: $linted; $(wc -l <"$work/refusals") refusals, $(wc -l <"$work/limits") limits, $(wc -l <"$work/commands") commands," \
+echo "man: $linted; $(wc -l <"$work/acts") acts, $(wc -l <"$work/questions") questions, $(wc -l <"$work/refusals") refusals, $(wc -l <"$work/limits") limits, $(wc -l <"$work/commands") commands," \
     "$(wc -l <"$work/options") options, $said"
 exit $status

@@ -1,14 +1,14 @@
 #!/bin/bash
 # Runs what the manual of the desk shows, and the rehearsals of examples/: tools/pages/manual.sh [PROGRAM], at any place.
 #
-# The fenced blocks of docs/OPERATORS.md are taken in order. A block ```sh is run by bash, in a new folder that has the program as
-# ./tcdesk and a copy of examples/; what it prints, on both its outputs, has to be the block without a word that stands next behind it, or
-# nothing where none does. A block ```csv PATH is the whole file PATH; a block ```text is a form, and not run.
-# The section "The desk over HTTP" is left to tools/pages/curl_cases.sh.
+# The pages of docs/manual/ are read in the order in which its README.md links them, and it has to link each. Each page has a new folder, with the program
+# as ./tcdesk and a copy of examples/. The fenced blocks of a page are taken in order. Bash runs a block ```sh. The next block, if it has no word, has to
+# be what the command prints on both its outputs; else the command prints nothing. A block ```csv PATH is the whole file PATH; a block ```text is a form,
+# and not run. The page over-http.md is left to tools/pages/curl_cases.sh.
 #
 # Then each examples/NAME.tc is run, by the command of its line `# ./tcdesk ..`, else by `./tcdesk run examples/NAME.tc`, in another
 # such folder, in order of name. It has to print NAME.out, and nothing on standard error but that its desk is a new one where it is; its status is 1
-# where a line is refused, else 0, and the manual has to name it.
+# where a line is refused, else 0, and a page of the manual has to name it.
 #
 # Then the commands of README.md, but for the gate, in a third, in their order. Each ends with 0, or with 1 where a line is refused, says nothing
 # on standard error but of a new desk, and prints the block that stands behind it, where one does: behind the first one does. The server is started at a port that
@@ -19,7 +19,7 @@
 set -u
 top=$(cd "$(dirname "${BASH_SOURCE[0]}")/../.." && pwd) || exit 1
 program=$(readlink -m "${1:-$top/crates/tc_cli/out/tc_cli}")
-manual=$top/docs/OPERATORS.md
+manual=$top/docs/manual
 [[ -x $program ]] || { echo "manual: $program is not built" >&2; exit 1; }
 command -v curl >/dev/null || { echo "manual: curl is not installed (Debian: curl)" >&2; exit 1; }
 work=$(mktemp -d) || exit 1
@@ -55,15 +55,13 @@ folder() {
     cd "$work/$1" || exit 1
 }
 
-# blocks PAGE FOLDER SECTION: puts each block of a page into a file of FOLDER that has the number of its line, and prints a list of their lines,
-# kinds and paths ('-' where a fence has no such word). Those of SECTION are left out.
+# blocks PAGE FOLDER: puts each block of a page into a file of FOLDER that has the number of its line, and prints a list of their lines, kinds and paths
+# ('-' where a fence has no such word).
 blocks() {
-    awk -v folder="$2" -v section="$3" '
-        !inside && /^## / { skipped = $0 == section }
+    awk -v folder="$2" '
         /^```/ {
             if (inside) { close(file); inside = 0; next }
             inside = 1
-            if (skipped) { file = "/dev/null"; next }
             file = sprintf("%s/%d", folder, NR)
             printf "" >file
             sub(/^```/, "")
@@ -74,7 +72,6 @@ blocks() {
         END { if (inside) print NR, "open", "-" }
     ' "$1"
 }
-blocks "$manual" "$work/blocks" "## The desk over HTTP" >"$work/list" || exit 1
 
 commands=0
 files=0
@@ -86,49 +83,62 @@ empty=$work/empty
 
 # settle WANTED: compares what the last command printed, where it was not compared yet.
 settle() {
-    ((is_waiting != 1)) || compare "what the command of docs/OPERATORS.md, line $command, prints" "$1" "$work/printed"
+    ((is_waiting != 1)) || compare "what the command of docs/manual/$name, line $command, prints" "$1" "$work/printed"
     is_waiting=0
 }
 
-folder shift
-while read -r line kind path; do
-    block=$work/blocks/$line
-    if [[ $kind == - && $is_waiting != 0 ]]; then
+# run_block LINE KIND PATH: runs a block of the page $name, or compares it.
+run_block() {
+    local line=$1 block=$work/blocks/$name/$1 path=$3
+    if [[ $2 == - && $is_waiting != 0 ]]; then
         settle "$block"
-        continue
+        return
     fi
     settle "$empty"
-    case $kind in
+    case $2 in
     sh)
         if grep -q '^sqlite3 ' "$block" && ! command -v sqlite3 >/dev/null; then
-            echo "not tried: the shell sqlite3 is not installed: docs/OPERATORS.md, line $line, is not run"
+            echo "not tried: the shell sqlite3 is not installed: docs/manual/$name, line $line, is not run"
             is_waiting=2
-            continue
+            return
         fi
         timeout 300 bash "$block" >"$work/printed" 2>&1 </dev/null
-        [[ $? != 124 ]] || fail "the command of docs/OPERATORS.md, line $line, does not end"
+        [[ $? != 124 ]] || fail "the command of docs/manual/$name, line $line, does not end"
         command=$line
         is_waiting=1
         commands=$((commands + 1))
         ;;
     csv)
-        [[ -f $top/$path ]] || fail "docs/OPERATORS.md, line $line: there is no file $path"
-        compare "$path, docs/OPERATORS.md, line $line," "$top/$path" "$block"
+        [[ -f $top/$path ]] || fail "docs/manual/$name, line $line: there is no file $path"
+        compare "$path, docs/manual/$name, line $line," "$top/$path" "$block"
         files=$((files + 1))
         ;;
     text) forms=$((forms + 1)) ;;
-    *) fail "docs/OPERATORS.md, line $line: a block that is no command, no output of one, no file and no form" ;;
+    *) fail "docs/manual/$name, line $line: a block that is no command, no output of one, no file and no form" ;;
     esac
-done <"$work/list"
-settle "$empty"
-((commands > 0)) || fail "docs/OPERATORS.md has no command"
+}
+
+mapfile -t pages < <(grep -oE '\]\([a-z-]+\.md\)' "$manual/README.md" | tr -d '()]')
+for name in "$manual"/*.md; do
+    name=${name##*/}
+    [[ $name == README.md || " ${pages[*]} " == *" $name "* ]] || fail "docs/manual/README.md does not link $name"
+done
+for name in "${pages[@]}"; do
+    [[ -f $manual/$name ]] || fail "docs/manual/README.md links $name, which is not there"
+    [[ $name != over-http.md ]] || continue
+    mkdir "$work/blocks/$name" && blocks "$manual/$name" "$work/blocks/$name" >"$work/list" || exit 1
+    folder "page-$name"
+    while read -r line kind path; do run_block "$line" "$kind" "$path"; done <"$work/list"
+    settle "$empty"
+done
+((commands > 0)) || fail "the manual has no command"
 
 rehearsals=0
 folder rehearsal
 for script in examples/*.tc; do
     wanted=$top/${script%.tc}.out
     [[ -f $wanted ]] || fail "$script has no ${script%.tc}.out"
-    grep -qF "$script" "$manual" || fail "docs/OPERATORS.md does not name $script"
+    grep -qF "$script" "$manual"/*.md || fail "no page of docs/manual names $script"
     words=$(sed -n 's/^# \(\.\/tcdesk .*\)/\1/p' "$script" | head -n 1)
     words=${words:-./tcdesk run $script}
     [[ " $words " == *" $script "* ]] || fail "$script says that it is run by another command: $words"
@@ -188,7 +198,7 @@ ask_server() {
 page=$top/README.md
 lines=$(wc -l <"$page")
 ((lines <= 150)) || fail "README.md has $lines lines: more than 150"
-blocks "$page" "$work/page" - >"$work/list" || exit 1
+blocks "$page" "$work/page" >"$work/list" || exit 1
 folder readme
 first=0
 shown=0
@@ -230,4 +240,4 @@ line=$(sed -nE "s|.*line ([0-9]+)\]\($promise#L\1\).*|\1|p" "$page")
 [[ -n $line ]] || fail "README.md does not say at which line of $promise its promise stands"
 [[ $(sed -n "${line}p" "$top/$promise") == 'pub record KeepsPromise '* ]] || fail "line $line of $promise does not define KeepsPromise"
 
-echo "manual: $first commands of README.md, $commands commands and $files files as they are shown, $forms forms, $rehearsals rehearsals"
+echo "manual: $first commands of README.md; on ${#pages[@]} pages $commands commands and $files files as they are shown, $forms forms; $rehearsals rehearsals"

@@ -1,4 +1,4 @@
-"""The proxy that docs/OPERATORS.md prints for nginx, before a served desk.
+"""The proxy that docs/manual/over-http.md prints for nginx, before a served desk.
 
 The text is taken from the manual as it stands, but for its ports and the paths of its files. Asked are a login, the desk's own answers through the proxy, a
 body that is too long, many posts at the same moment, each of which has to be answered and to stand, a peer that says nothing, which holds nobody, and the board
@@ -38,7 +38,7 @@ http {{
 
 def manual(folder: str, own: int, desk: int) -> str:
     """The manual's text for nginx, at these ports, with its files in this folder."""
-    with open(f"{TOP}/docs/OPERATORS.md", encoding="utf-8") as file:
+    with open(f"{TOP}/docs/manual/over-http.md", encoding="utf-8") as file:
         found = re.search(r"```nginx\n(.*?)```", file.read(), re.DOTALL)
     if not found:
         raise Fault("the manual has no text for nginx")

@@ -275,13 +275,13 @@ def reset(peer: socket.socket) -> None:
 
 # ---- what has to be answered
 
-def run(program: str, folder: str, lines: Iterable[str], *words: str) -> str:
-    """Runs a script of these lines, which says nothing on the standard error but of a new desk."""
+def run(program: str, folder: str, lines: Iterable[str], *words: str, seconds: float = 900) -> str:
+    """Runs a script of these lines, which says nothing on the standard error but of a new desk. It fails if that takes more than so many seconds."""
     with open(f"{folder}/script.tc", "w", encoding="ascii", newline="") as file:
         file.write("".join(f"{it}\n" for it in lines))
     words = ("run", *words, "script.tc")
     first = said_first(folder, words)
-    ran = subprocess.run([program, *words], cwd=folder, stdin=subprocess.DEVNULL, capture_output=True, timeout=900, check=False)
+    ran = subprocess.run([program, *words], cwd=folder, stdin=subprocess.DEVNULL, capture_output=True, timeout=seconds, check=False)
     ended = Ended(ran.returncode, ran.stdout.decode("latin-1"), said_then(first, ran.returncode, ran.stderr.decode("latin-1")))
     if ended.status > 1 or ended.err:
         raise Fault(f"a run of a script: {ended}")

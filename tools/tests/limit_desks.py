@@ -33,9 +33,9 @@ def why_unlike(path: str, wanted: Tables) -> str:
 class Beside:
     """A desk in a folder of its own, whose scripts load these files; what is wrong of it is told in `faults`."""
 
-    def __init__(self, program: str, folder: str, files: dict[str, bytes], left: Optional[Tables] = None) -> None:
-        """There is no file yet, or one that holds these tables."""
-        self.program, self.folder, self.files, self.left = program, folder, files, left
+    def __init__(self, program: str, folder: str, files: dict[str, bytes], left: Optional[Tables] = None, seconds: float = 900) -> None:
+        """There is no file yet, or one that holds these tables. Each script has so many seconds."""
+        self.program, self.folder, self.files, self.left, self.seconds = program, folder, files, left, seconds
         self.faults: list[str] = []
         write_files(folder, files)
 
@@ -66,7 +66,7 @@ class Beside:
     def compare(self, name: str, wanted: list[tuple[str, str]], lines: Iterable[str], *words: str) -> None:
         """Runs these lines: what is printed is what is wanted, each with the line that is answered so."""
         try:
-            printed: Iterator[str] = iter(run(self.program, self.folder, lines, "--db", "desk.db", *words).splitlines())
+            printed: Iterator[str] = iter(run(self.program, self.folder, lines, "--db", "desk.db", *words, seconds=self.seconds).splitlines())
         except Fault as why:
             self.faults.append(f"{name}: {why!s:.600}")
             return

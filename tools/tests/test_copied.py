@@ -200,7 +200,7 @@ class Copied(Worked):
 
     def mended(self, folder: str) -> None:
         """Does what the manual says to a file that was analyzed, by the stock shell where it is there."""
-        with open(f"{TOP}/docs/OPERATORS.md", encoding="utf-8") as manual:
+        with open(f"{TOP}/docs/manual/copies.md", encoding="utf-8") as manual:
             said = MENDED.findall(manual.read())
         self.assertEqual(1, len(said), "the manual says it in one line")
         if SHELL:

@@ -1,7 +1,7 @@
 """Kept replies, long ones and many: what a call is answered that comes again, also once the desk was closed and opened, and the rows of the
 table.
 
-A reply comes to 65,535, 65,536 and 65,537 bytes, and to more than 73,500 where 127 inserts of eight activities are out as the service ends, and
+A reply comes to each length from 65,520 to 65,552 bytes, and to more than 73,500 if 127 inserts of eight activities are out as the service ends, and
 one more waits. It has more than 200 lines, and `loop` prints all of them. The desk keeps 3,001, 65,537 and 100,001 replies, each to an act that it carried out, by `loop`. The desk has no limit of either,
 so none may be met.
 """
@@ -18,7 +18,7 @@ from tests.limit_desks import why_unlike
 from tests.new_desks import said_first, said_then
 from tests.runs import write_lines
 
-LENGTHS = (65_535, 65_536, 65_537, None)
+LENGTHS = (*range(65_520, 65_553), None)
 COUNTS = (3_001, 65_537, 100_001)
 LONGEST = 73_500
 PERSONS = ("ann", "b", "7")  # of short names: a script has 1,048,576 bytes at most

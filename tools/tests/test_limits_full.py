@@ -12,6 +12,9 @@ from tests.limit_desks import Beside
 from tests.runs import Tried, quick_folder
 
 
+SECONDS = 6 * 3600  # for a script of 60,000 lines, on a machine that does much besides
+
+
 class FullLimits(Tried):
     """Desks that come to their limits."""
 
@@ -23,7 +26,7 @@ class FullLimits(Tried):
 
     def test_moves(self) -> None:
         """990,000 rows, each made by an act."""
-        it = Beside(ASKED.program, self.work, cycles.MOVE_FILES)
+        it = Beside(ASKED.program, self.work, cycles.MOVE_FILES, seconds=SECONDS)
         it.day("the entries", cycles.entry_day())
         for number, lines in enumerate(cycles.move_days(), 1):
             desk = it.day(f"script {number}", lines, number)
@@ -34,7 +37,7 @@ class FullLimits(Tried):
 
     def test_riding(self) -> None:
         """Activities ride, and the link is asked for all that it does."""
-        it = Beside(ASKED.program, self.work, cycles.RIDE_FILES)
+        it = Beside(ASKED.program, self.work, cycles.RIDE_FILES, seconds=SECONDS)
         it.day("the entries", cycles.ride_entries())
         it.day("the rides", cycles.ride_day(ASKED.count_or(cycles.INSERTS)), 2)
         it.day("the next day", [*cycles.ride_day(2)], 3)

@@ -1,15 +1,15 @@
 -- A layer that its reader refuses has a field that does not fit.
-use Rattle.std.proofs.Common.{◌≡◌, ◌≢◌, ◌≤◌, ◌<◌, ◌^◌, ◌+◌, ◌-◌, ◌/◌, ◌%◌, ℕ, zero, suc, Bool, true, false, List, [], ◌∷◌, ◌++◌, length, drop, take}
+use Rattle.std.proofs.Common.{◌≡◌, ◌≢◌, ◌≤◌, ◌<◌, ◌^◌, ◌+◌, ◌-◌, ◌/◌, ◌%◌, ℕ, Bool, true, false, List, [], ◌∷◌, ◌++◌, length, drop, take}
 use Rattle.std.proofs.Common.{refl, sym, ap, ◌∙◌, subst, inl, inr, get_or, arith}
-use Rattle.std.specs.Prelude.{Option, Some, None, Ok, Err, Result, ◌⊎◌, ◌*◌, ◌==◌, ◌&&◌, ◌||◌, not, nat_le, if◌then◌else◌, IsTrue, slice_index}
+use Rattle.std.specs.Prelude.{Option, Some, None, Ok, Err, Result, ◌*◌, ◌==◌, ◌&&◌, not, nat_le, if◌then◌else◌, IsTrue, slice_index}
 use Rattle.std.specs.List.{list_any}
 use Rattle.std.proofs.lemmas.Bool.{cases_lt, eq-eqb, eqb-true, leb-true, ne_eqb, not-false, true≢false}
 use Rattle.std.proofs.lemmas.List.{get_or-drop}
-use Rattle.std.proofs.lemmas.List.Folds.{list_any-append, list_any_at}
+use Rattle.std.proofs.lemmas.List.Folds.{list_any_at}
 use Rattle.tc_octets.specs.Bits.{pair_at}
 use Rattle.tc_octets.specs.Crc.{crc_of}
-use Rattle.tc_octets.specs.TcFrames.{HeaderSays, IsChecked, IsLong, Reads as ReadsFrame, check_length}
-use Rattle.tc_octets.specs.TmFrames.{IsTmChecked, TmSays}
+use Rattle.tc_octets.specs.TcFrames.{IsLong, Reads as ReadsFrame, check_length}
+use Rattle.tc_octets.specs.TmFrames.{TmSays}
 use Rattle.tc_octets.specs.declared.profiles.Profile.{Profile}
 use Rattle.tc_octets.specs.declared.tc_frames.TcFault.{TcFault}
 use Rattle.tc_octets.specs.declared.tc_frames.TcFault.TheVariants as tc_faults
@@ -21,19 +21,18 @@ use Rattle.tc_packets.specs.TelecommandReaders as packets
 use Rattle.tc_packets.specs.declared.flights.Flight.{Flight}
 use Rattle.tc_packets.specs.declared.telecommand_readers.PacketFault.{PacketFault}
 use Rattle.tc_packets.specs.declared.telecommand_readers.PacketFault.TheVariants as packet_faults
-use Rattle.tc_decoded.specs.declared.lines.Line.{Line}
-use Rattle.tc_decoded.specs.declared.places.Place.{Place}
 use Rattle.tc_decoded.specs.declared.rows.Row.{Row}
 use Rattle.tc_decoded.specs.declared.rows.Word.{Word}
 use Rattle.tc_decoded.specs.declared.rows.Word.TheVariants as words
 use Rattle.tc_decoded.specs.declared.names.Name.TheVariants as names
 use Rattle.tc_decoded.specs.declared.rows.Fit.TheVariants as fit
-use Rattle.tc_decoded.specs.Faults.{AreOctets, HasFault, TcFrameHasFault, TelecommandHasFault}
-use Rattle.tc_decoded.specs.Rows.{bits_in, counted, fails, fits, line_of, told}
+use Rattle.tc_decoded.specs.Faults.{frame_fields, telecommand_fields, tm_fields}
+use Rattle.tc_decoded.specs.Rows.{bits_in, counted, fails, fits, told}
 use Rattle.tc_decoded.specs.Tables.{check_of, frame_check, packet_check}
 use Rattle.tc_decoded.specs.TcFrameLines as frames
 use Rattle.tc_decoded.specs.Telecommands as telecommands
 use Rattle.tc_decoded.specs.TmFrameLines.{tm_header_rows, tm_word}
+use Rattle.tc_decoded.proofs.FaultLemmas.{AreOctets, HasFault, behind, in_front}
 
 -- ---- tables
 
@@ -41,55 +40,21 @@ abbrev is_word : Option Word → Bool
 is_word None = false
 is_word (Some word) = true
 
-some≢none : {word : Word} → Some word ≡ None → ⊥
+pub some≢none : {word : Word} → Some word ≡ None → ⊥
 some≢none e = true≢false (ap is_word e)
-
--- Rows after one that does not fit are not told.
-ended : (b : Bool) (place : Place) (word : Word) (octets : List ℕ) (row : Row) (rows more : List Row) → fails (Some word) octets row ≡ b
-    → (list_any (fails (Some word) octets) rows ≡ true → told place (Some word) octets (rows ++ more) ≡ told place (Some word) octets rows)
-    → list_any (fails (Some word) octets) (row ∷ rows) ≡ true
-    → told place (Some word) octets ((row ∷ rows) ++ more) ≡ told place (Some word) octets (row ∷ rows)
-ended true place word octets row rows more e rest h =
-    ap (λ (b : Bool). line_of place (Some word) octets row ∷ (if b then [] else told place (Some word) octets (rows ++ more))) e
-    ∙ sym (ap (λ (b : Bool). line_of place (Some word) octets row ∷ (if b then [] else told place (Some word) octets rows)) e)
-ended false place word octets row rows more e rest h =
-    ap (λ (b : Bool). line_of place (Some word) octets row ∷ (if b then [] else told place (Some word) octets (rows ++ more))) e
-    ∙ ap (λ (l : List Line). line_of place (Some word) octets row ∷ l)
-    (rest (sym (ap (λ (b : Bool). b || list_any (fails (Some word) octets) rows) e) ∙ h))
-    ∙ sym (ap (λ (b : Bool). line_of place (Some word) octets row ∷ (if b then [] else told place (Some word) octets rows)) e)
-
-pub fault_ends : (place : Place) (word : Word) (octets : List ℕ) (rows more : List Row) → HasFault word octets rows
-    → told place (Some word) octets (rows ++ more) ≡ told place (Some word) octets rows
-fault_ends place word octets [] more h = absurd (true≢false (sym h))
-fault_ends place word octets (row ∷ rows) more h =
-    ended (fails (Some word) octets row) place word octets row rows more refl (fault_ends place word octets rows more) h
-
--- a fault in the first rows, or in those after them, is one of all
-or_after : (a b : Bool) → b ≡ true → (a || b) ≡ true
-or_after true b h = refl
-or_after false b h = h
-
-in_front : (word : Word) (octets : List ℕ) (rows more : List Row) → HasFault word octets rows → HasFault word octets (rows ++ more)
-in_front word octets rows more h =
-    list_any-append (fails (Some word) octets) rows more ∙ ap (λ (b : Bool). b || list_any (fails (Some word) octets) more) h
-
-behind : (word : Word) (octets : List ℕ) (rows more : List Row) → HasFault word octets more → HasFault word octets (rows ++ more)
-behind word octets rows more h =
-    list_any-append (fails (Some word) octets) rows more
-    ∙ or_after (list_any (fails (Some word) octets) rows) (list_any (fails (Some word) octets) more) h
 
 -- ---- rows
 
-some_row : Row
+pub some_row : Row
 some_row = counted names.Packet 0 0 words.Length fit.Any
 
 -- one row that does not fit
-at_row : (word : Word) (octets : List ℕ) (rows : List Row) (i : ℕ) → i < length rows → fails (Some word) octets (get_or rows i some_row) ≡ true
+pub at_row : (word : Word) (octets : List ℕ) (rows : List Row) (i : ℕ) → i < length rows → fails (Some word) octets (get_or rows i some_row) ≡ true
     → HasFault word octets rows
 at_row word octets rows i within e = list_any_at (fails (Some word) octets) rows i some_row within e
 
 -- A table has a fault if the reader's word is wrong where each row fits.
-by_none : (b : Bool) → (b ≡ false → ⊥) → b ≡ true
+pub by_none : (b : Bool) → (b ≡ false → ⊥) → b ≡ true
 by_none true bad = refl
 by_none false bad = absurd (bad refl)
 
@@ -98,50 +63,50 @@ picked : (p : Row → Bool) (rows : List Row) (i : ℕ) (b : Bool) → i < lengt
 picked p rows i false within none e = e
 picked p rows i true within none e = absurd (true≢false (sym (list_any_at p rows i some_row within e) ∙ none))
 
-fits_at : (word : Word) (octets : List ℕ) (rows : List Row) (i : ℕ) → i < length rows → list_any (fails (Some word) octets) rows ≡ false
+pub fits_at : (word : Word) (octets : List ℕ) (rows : List Row) (i : ℕ) → i < length rows → list_any (fails (Some word) octets) rows ≡ false
     → fails (Some word) octets (get_or rows i some_row) ≡ false
 fits_at word octets rows i within none =
     picked (fails (Some word) octets) rows i (fails (Some word) octets (get_or rows i some_row)) within none refl
 
-same : (a b : ℕ) → not (a == b) ≡ false → a ≡ b
+pub same : (a b : ℕ) → not (a == b) ≡ false → a ≡ b
 same a b e = eqb-true a b (not-false (a == b) e)
 
-both : (a b : Bool) → not (a && b) ≡ false → (a ≡ true) × (b ≡ true)
+pub both : (a b : Bool) → not (a && b) ≡ false → (a ≡ true) × (b ≡ true)
 both true true e = (refl, refl)
 both true false e = absurd (true≢false e)
 both false b e = absurd (true≢false e)
 
-between : (least value most : ℕ) → not (nat_le least value && nat_le value most) ≡ false → (least ≤ value) × (value ≤ most)
+pub between : (least value most : ℕ) → not (nat_le least value && nat_le value most) ≡ false → (least ≤ value) × (value ≤ most)
 between least value most e =
     let parts = both (nat_le least value) (nat_le value most) e in (leb-true least value parts.0, leb-true value most parts.1)
 
-differs : (a b : ℕ) → ¬ (a ≡ b) → not (a == b) ≡ true
+pub differs : (a b : ℕ) → ¬ (a ≡ b) → not (a == b) ≡ true
 differs a b bad = ap not (ne_eqb a b bad)
 
 -- ---- values
 
-octet_dropped : (octets : List ℕ) (at : ℕ) → slice_index (drop at octets) 0 ≡ slice_index octets at
+pub octet_dropped : (octets : List ℕ) (at : ℕ) → slice_index (drop at octets) 0 ≡ slice_index octets at
 octet_dropped octets at = get_or-drop at octets 0 0 ∙ ap (slice_index octets) (let e : at + 0 ≡ at = omega arith in e)
 
-pair_dropped : (octets : List ℕ) (at : ℕ) → pair_at (drop at octets) 0 ≡ pair_at octets at
+pub pair_dropped : (octets : List ℕ) (at : ℕ) → pair_at (drop at octets) 0 ≡ pair_at octets at
 pair_dropped octets at =
     ap (λ (n : ℕ). n * 256 + slice_index (drop at octets) 1) (octet_dropped octets at)
     ∙ ap (λ (n : ℕ). slice_index octets at * 256 + n) (get_or-drop at octets 1 0)
 
 -- a field of an octet, and one of two
-octet_value : (octets : List ℕ) (at : ℕ) → AreOctets octets → bits_in octets at (record { bit = 0; bits = 8 }) ≡ slice_index octets at
+pub octet_value : (octets : List ℕ) (at : ℕ) → AreOctets octets → bits_in octets at (record { bit = 0; bits = 8 }) ≡ slice_index octets at
 octet_value octets at are = omega (arith, octet_dropped octets at, are at)
 
-pair_value : (octets : List ℕ) (at : ℕ) → AreOctets octets → bits_in octets at (record { bit = 0; bits = 16 }) ≡ pair_at octets at
+pub pair_value : (octets : List ℕ) (at : ℕ) → AreOctets octets → bits_in octets at (record { bit = 0; bits = 16 }) ≡ pair_at octets at
 pair_value octets at are = omega (arith, pair_dropped octets at, are at, are (at + 1))
 
 -- ---- error control
 
-check_row : (octets : List ℕ) → AreOctets octets → ¬ (pair_at octets (length octets - 2) ≡ check_of octets)
+pub check_row : (octets : List ℕ) → AreOctets octets → ¬ (pair_at octets (length octets - 2) ≡ check_of octets)
     → not (bits_in octets (length octets - 2) (record { bit = 0; bits = 16 }) == check_of octets) ≡ true
 check_row octets are bad = differs _ (check_of octets) (λ e. bad (sym (pair_value octets (length octets - 2) are) ∙ e))
 
-frame_checked : (fecf : Bool) (octets : List ℕ) → AreOctets octets
+pub frame_checked : (fecf : Bool) (octets : List ℕ) → AreOctets octets
     → ¬ (fecf ≡ true → pair_at octets (length octets - 2) ≡ crc_of (take (length octets - 2) octets))
     → HasFault words.Check octets (frame_check fecf octets)
 frame_checked true octets are bad =
@@ -151,7 +116,7 @@ frame_checked false octets are bad = absurd (bad (λ yes. absurd (true≢false (
 -- ---- telemetry frames
 
 pub tm_frame_fault : (profile : Profile) (octets : List ℕ) (fault : TmFault) → AreOctets octets → TmSays profile octets (Some fault)
-    → HasFault (tm_word fault) octets (tm_header_rows profile octets ++ frame_check profile.tm.fecf octets)
+    → HasFault (tm_word fault) octets (tm_fields profile octets)
 tm_frame_fault profile octets tm_faults.Length are says =
     in_front words.Length octets (tm_header_rows profile octets) (frame_check profile.tm.fecf octets)
     (at_row words.Length octets (tm_header_rows profile octets) 0 (omega arith) (differs (length octets) profile.tm.length says))
@@ -219,56 +184,55 @@ kind_fault profile octets are plain control =
     (λ e. both_bits (slice_index octets 0) (slice_index octets 1) (are 0) (are 1) e plain control))
 
 -- the word of a fault, in the place of another word that is the same
-abbrev given : Word → Option Word → Word
+abbrev pub given : Word → Option Word → Word
 given other None = other
 given other (Some word) = word
 
-by_word : (word known : Word) (octets : List ℕ) (rows : List Row) → Some word ≡ Some known → HasFault known octets rows → HasFault word octets rows
+pub by_word : (word known : Word) (octets : List ℕ) (rows : List Row) → Some word ≡ Some known → HasFault known octets rows → HasFault word octets rows
 by_word word known octets rows e h = subst (λ (w : Word). HasFault w octets rows) (sym (ap (given word) e)) h
 
-abbrev frame_rows : Profile → List ℕ → List Row
-frame_rows profile octets = frames.front_rows profile octets ++ frames.packet_rows profile octets ++ frame_check profile.tc.fecf octets
+-- A frame that is refused for its content has a field at fault, if this is so.
+pub record ContentFault (profile : Profile) (octets : List ℕ) : Type 0 where
+  pub content : ReadsFrame profile octets (Err tc_faults.Content) → HasFault words.Content octets (frame_fields profile octets)
 
 tc_frame_judged : (profile : Profile) (octets : List ℕ) (word : Word) (fault : TcFault) → AreOctets octets → ReadsFrame profile octets (Err fault)
-    → Some word ≡ frames.word_of (Err fault) → word ≢ words.Content
-    → HasFault word octets (frame_rows profile octets)
-tc_frame_judged profile octets word tc_faults.Length are says e not_content =
-    by_word word words.Length octets (frame_rows profile octets) e
+    → Some word ≡ frames.word_of (Err fault) → ContentFault profile octets
+    → HasFault word octets (frame_fields profile octets)
+tc_frame_judged profile octets word tc_faults.Length are says e has =
+    by_word word words.Length octets (frame_fields profile octets) e
     (header_fault profile octets words.Length (frame_check profile.tc.fecf octets)
     (by_none _ (λ none. says (long_frame profile octets none))))
-tc_frame_judged profile octets word tc_faults.Check are says e not_content =
-    by_word word words.Check octets (frame_rows profile octets) e
+tc_frame_judged profile octets word tc_faults.Check are says e has =
+    by_word word words.Check octets (frame_fields profile octets) e
     (behind words.Check octets (frames.front_rows profile octets ++ frames.packet_rows profile octets) (frame_check profile.tc.fecf octets)
     (frame_checked profile.tc.fecf octets are says.1))
-tc_frame_judged profile octets word tc_faults.Version are says e not_content =
-    by_word word words.Version octets (frame_rows profile octets) e
+tc_frame_judged profile octets word tc_faults.Version are says e has =
+    by_word word words.Version octets (frame_fields profile octets) e
     (header_fault profile octets words.Version (frame_check profile.tc.fecf octets)
     (by_none _ (λ none. says.2 (sound_version profile octets are none))))
-tc_frame_judged profile octets word tc_faults.Spacecraft are says e not_content =
-    by_word word words.Spacecraft octets (frame_rows profile octets) e
+tc_frame_judged profile octets word tc_faults.Spacecraft are says e has =
+    by_word word words.Spacecraft octets (frame_fields profile octets) e
     (header_fault profile octets words.Spacecraft (frame_check profile.tc.fecf octets)
     (at_row words.Spacecraft octets (frames.header_rows profile octets) 5 (omega arith)
     (differs (pair_at octets 0 / 2 ^ 0 % 2 ^ 10) profile.scid (λ same_id. says.4 (omega (arith, same_id, are 0, are 1))))))
-tc_frame_judged profile octets word tc_faults.Channel are says e not_content =
-    by_word word words.Channel octets (frame_rows profile octets) e
+tc_frame_judged profile octets word tc_faults.Channel are says e has =
+    by_word word words.Channel octets (frame_fields profile octets) e
     (header_fault profile octets words.Channel (frame_check profile.tc.fecf octets)
     (at_row words.Channel octets (frames.header_rows profile octets) 6 (omega arith)
     (differs (slice_index (drop 2 octets) 0 / 2 ^ 2 % 2 ^ 6) profile.tc.vcid
     (λ same_id. says.5 (omega (arith, same_id, are 2, are 3, octet_dropped octets 2))))))
-tc_frame_judged profile octets word tc_faults.Kind are says e not_content =
-    by_word word words.Kind octets (frame_rows profile octets) e
+tc_frame_judged profile octets word tc_faults.Kind are says e has =
+    by_word word words.Kind octets (frame_fields profile octets) e
     (header_fault profile octets words.Kind (frame_check profile.tc.fecf octets) (kind_fault profile octets are says.1 says.2))
-tc_frame_judged profile octets word tc_faults.Content are says e not_content = absurd (not_content (ap (given word) e))
+tc_frame_judged profile octets word tc_faults.Content are says e has =
+    by_word word words.Content octets (frame_fields profile octets) e (has.content says)
 
-read_fault : (profile : Profile) (octets : List ℕ) (word : Word) (read : Result TcFrame TcFault) → AreOctets octets → ReadsFrame profile octets read
-    → Some word ≡ frames.word_of read → word ≢ words.Content
-    → HasFault word octets (frame_rows profile octets)
-read_fault profile octets word (Ok frame) are says e not_content = absurd (some≢none e)
-read_fault profile octets word (Err fault) are says e not_content = tc_frame_judged profile octets word fault are says e not_content
-
-pub tc_frame_fault : TcFrameHasFault
-tc_frame_fault profile octets word are judged not_content =
-    read_fault profile octets word judged.read are judged.says judged.is not_content
+-- a telecommand frame that its reader refuses has a field that does not fit
+pub read_fault : (profile : Profile) (octets : List ℕ) (word : Word) (read : Result TcFrame TcFault) → AreOctets octets → ReadsFrame profile octets read
+    → Some word ≡ frames.word_of read → ContentFault profile octets
+    → HasFault word octets (frame_fields profile octets)
+read_fault profile octets word (Ok frame) are says e has = absurd (some≢none e)
+read_fault profile octets word (Err fault) are says e has = tc_frame_judged profile octets word fault are says e has
 
 -- ---- telecommand packets
 
@@ -333,37 +297,31 @@ sound_type profile octets are none =
       scheduled = subtype.1;
     }
 
-abbrev all_rows : Profile → List ℕ → List Row
-all_rows profile octets = telecommands.headers profile octets ++ telecommands.data_rows profile octets ++ packet_check octets ∷ []
-
 headers_fault : (profile : Profile) (octets : List ℕ) (word : Word) → HasFault word octets (telecommands.headers profile octets)
-    → HasFault word octets (all_rows profile octets)
+    → HasFault word octets (telecommand_fields profile octets)
 headers_fault profile octets word h =
     in_front word octets (telecommands.headers profile octets ++ telecommands.data_rows profile octets) (packet_check octets ∷ [])
     (in_front word octets (telecommands.headers profile octets) (telecommands.data_rows profile octets) h)
 
 packet_judged : (profile : Profile) (octets : List ℕ) (word : Word) (fault : PacketFault) → AreOctets octets → ReadsPacket profile octets (Err fault)
-    → Some word ≡ telecommands.word_of (Err fault) → word ≢ words.Data → HasFault word octets (all_rows profile octets)
+    → Some word ≡ telecommands.word_of (Err fault) → word ≢ words.Data → HasFault word octets (telecommand_fields profile octets)
 packet_judged profile octets word packet_faults.Length are says e not_data =
-    by_word word words.Length octets (all_rows profile octets) e
+    by_word word words.Length octets (telecommand_fields profile octets) e
     (headers_fault profile octets words.Length (by_none _ (λ none. says (long_packet profile octets are none))))
 packet_judged profile octets word packet_faults.Check are says e not_data =
-    by_word word words.Check octets (all_rows profile octets) e
+    by_word word words.Check octets (telecommand_fields profile octets) e
     (behind words.Check octets (telecommands.headers profile octets ++ telecommands.data_rows profile octets) (packet_check octets ∷ [])
     (at_row words.Check octets (packet_check octets ∷ []) 0 (omega arith) (check_row octets are says.1)))
 packet_judged profile octets word packet_faults.Header are says e not_data =
-    by_word word words.Header octets (all_rows profile octets) e
+    by_word word words.Header octets (telecommand_fields profile octets) e
     (headers_fault profile octets words.Header (by_none _ (λ none. says.2 (sound_header profile octets are none))))
 packet_judged profile octets word packet_faults.Subtype are says e not_data =
-    by_word word words.Subtype octets (all_rows profile octets) e
+    by_word word words.Subtype octets (telecommand_fields profile octets) e
     (headers_fault profile octets words.Subtype (by_none _ (λ none. says.3 (sound_type profile octets are none))))
 packet_judged profile octets word packet_faults.Data are says e not_data = absurd (not_data (ap (given word) e))
 
-read_packet_fault : (profile : Profile) (octets : List ℕ) (word : Word) (read : Result Flight PacketFault) → AreOctets octets
-    → ReadsPacket profile octets read → Some word ≡ telecommands.word_of read → word ≢ words.Data → HasFault word octets (all_rows profile octets)
+-- a telecommand packet that its reader refuses for its headers or its check has a field that does not fit
+pub read_packet_fault : (profile : Profile) (octets : List ℕ) (word : Word) (read : Result Flight PacketFault) → AreOctets octets
+    → ReadsPacket profile octets read → Some word ≡ telecommands.word_of read → word ≢ words.Data → HasFault word octets (telecommand_fields profile octets)
 read_packet_fault profile octets word (Ok flight) are says e not_data = absurd (some≢none e)
 read_packet_fault profile octets word (Err fault) are says e not_data = packet_judged profile octets word fault are says e not_data
-
-pub telecommand_fault : TelecommandHasFault
-telecommand_fault profile octets word are judged not_data =
-    read_packet_fault profile octets word judged.read are judged.says judged.is not_data

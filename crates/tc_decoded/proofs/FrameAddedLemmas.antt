@@ -1,5 +1,5 @@
 -- The lines of transfer frames, which were added in parts.
-use Rattle.std.proofs.Common.{◌≡◌, ℕ, ◌+◌, true, List, ◌++◌, length, take, drop, refl, ap, ◌∙◌, subst}
+use Rattle.std.proofs.Common.{◌≡◌, ℕ, ◌+◌, true, List, ◌++◌, length, take, drop, ap, ◌∙◌, subst}
 use Rattle.std.specs.Prelude.{None, Ok}
 use Rattle.tc_octets.specs.TmFrames.{tm_parts}
 use Rattle.tc_octets.specs.declared.profiles.Profile.{Profile}

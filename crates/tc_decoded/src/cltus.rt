@@ -3,8 +3,7 @@ ghost use Rattle.std.specs.Prelude.{◌≡◌, ◌+◌, ◌++◌, ◌≤◌, ◌
 ghost use Rattle.tc_octets.specs.Cltus.{after, received, searching};
 ghost use Rattle.tc_decoded.specs.Added.{Added};
 ghost use Rattle.tc_decoded.specs.CltuLines.{CltuTold, CltusTold, EndedTold, InformationTold, StreamTold, cltu_rows, codeblocks_row, end_name, end_row, is_tail};
-ghost use Rattle.tc_decoded.specs.CltuLines.{mode_of, no_frame_rows, or_none, start_of};
-ghost use Rattle.tc_decoded.specs.Places.{coded_from, the_whole};
+ghost use Rattle.tc_decoded.specs.CltuLines.{mode_of, no_frame_rows, start_of};
 ghost use Rattle.tc_decoded.specs.Rows.{told};
 
 use crate::lines::Line;
@@ -31,7 +30,7 @@ fn mode_of(profile: &Profile) -> Mode
     }
 }
 
-/// Returns where the start sequence stands of a CLTU that ended before an octet.
+/// Returns the place of the start sequence of a CLTU that ended before an octet.
 fn start_of(end: usize, information: usize) -> usize
     requires { information ≤ 1029 }
     ensures value { result ≡ start_of end information }
@@ -41,7 +40,7 @@ fn start_of(end: usize, information: usize) -> usize
         .saturating_sub(information / INFORMATION * CODEBLOCK)
 }
 
-/// Whether eight octets are the tail sequence.
+/// Returns whether eight octets are the tail sequence.
 fn is_tail(octets: &[u8], at: usize) -> bool
     requires { at ≤ 65542 }
     ensures { result ≡ is_tail octets.now at }

@@ -1,7 +1,8 @@
-//! What the octets of a layer mean.
+//! The meaning of a layer's octets.
 ghost use Rattle.std.specs.Prelude.{◌≡◌, ◌≤◌, IfOk, length};
 ghost use Rattle.std.specs.List.{list_any};
 ghost use Rattle.tc_decoded.specs.Decoded.{Decodes, is_fault};
+ghost use Rattle.tc_decoded.specs.Faults.{FaultsTold};
 ghost use Rattle.tc_decoded.specs.Places.{the_whole};
 ghost use Rattle.tc_decoded.specs.ReportLines.{PacketTold};
 ghost use Rattle.tc_decoded.specs.TcFrameLines.{TcFrameTold};
@@ -77,7 +78,7 @@ fn tm_lines<A: Allocator + Copy + Drop>(
 /// Returns what the octets of a layer mean, field by field, or what is wrong with them and where. Fails if memory is refused.
 ///
 /// The layers inside come after the fields before them, with their places in the whole. A layer that its reader refuses ends with the field for
-/// which the reader refuses it.
+/// which the reader refuses it: the clause `faults`.
 pub fn decoded<A: Allocator + Copy + Drop>(
     alloc: A,
     profile: &Profile,
@@ -85,7 +86,8 @@ pub fn decoded<A: Allocator + Copy + Drop>(
     octets: &[u8],
 ) -> Result<Vec<Line, A>, AllocError>
     requires { length octets.now ≤ MOST_OCTETS }
-    ensures { IfOk result (λ lines. Decodes profile.now layer octets.now lines.items) }
+    ensures value { IfOk result (λ lines. Decodes profile.now layer octets.now lines.items) }
+    ensures faults { IfOk result (λ lines. FaultsTold profile.now layer octets.now lines.items) }
 {
     match layer {
         Layer::Frame => frame_lines(alloc, profile, octets),
@@ -95,7 +97,7 @@ pub fn decoded<A: Allocator + Copy + Drop>(
     }
 }
 
-/// Whether a line says what is wrong.
+/// Returns whether a line says what is wrong.
 pub fn has_fault(lines: &[Line]) -> bool
     ensures { result ≡ list_any is_fault lines.now }
 {

@@ -47,7 +47,7 @@ fn activity_length(profile: &Profile, octets: &[u8]) -> usize
     time + usize::from(pair_at(octets_from(octets, time), 4)) + 7
 }
 
-/// Whether octets are less than an activity.
+/// Returns whether octets are less than an activity.
 fn is_cut(profile: &Profile, octets: &[u8]) -> bool
     ensures { result ≡ is_cut profile.now octets.now }
 {
@@ -139,14 +139,14 @@ fn tell_activities<A: Allocator + Copy>(
     tell_activities(alloc, out, &place, word, profile, others, number - 1)
 }
 
-/// Whether a packet that is refused by this word, or taken, may be an insert.
+/// Returns whether a packet that is refused by this word, or taken, may be an insert.
 fn may_insert(word: Option<Word>) -> bool
     ensures { result ≡ may_insert word }
 {
     matches!(word, None | Some(Word::Data))
 }
 
-/// Whether the lines of a packet have those of activities.
+/// Returns whether the lines of a packet have those of activities.
 fn is_insert(word: Option<Word>, octets: &[u8]) -> bool
     ensures { result ≡ is_insert word octets.now }
 {

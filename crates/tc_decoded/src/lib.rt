@@ -1,4 +1,4 @@
-//! What the octets of a link mean, field by field, or what is wrong with them and where.
+//! The meaning of the octets of a link, field by field, or the first fault with its place.
 //!
 //! Everything here is a function of values. Nothing reads a socket or a clock.
 #![tactic(auto)]
@@ -40,7 +40,6 @@ macro_rules! count {
 mod cltus;
 mod decoding;
 mod inserts;
-pub mod laws;
 mod line_texts;
 mod lines;
 mod names;

@@ -1,7 +1,7 @@
 //! The texts of lines.
 ghost use Rattle.std.specs.Prelude.{◌≡◌, None, Some};
 ghost use Rattle.std.specs.Option.{MatchOption};
-ghost use Rattle.tc_decoded.specs.LineTexts.{command_word, fault_text, fit_text, is_are, line_text, number_of, shown_text, unit, word_at, word_of};
+ghost use Rattle.tc_decoded.specs.LineTexts.{command_word, fit_text, is_are, line_text, number_of, shown_text, unit, word_of};
 
 use crate::lines::Line;
 use crate::rows::{Fit, Shown};
@@ -143,7 +143,7 @@ impl fmt::Display for Value {
     }
 }
 
-/// What a value must be, as it is printed.
+/// The condition on a value, as it is printed.
 #[derive(Clone, Copy)]
 struct Fault {
     shown: Shown,

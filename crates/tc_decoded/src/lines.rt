@@ -16,7 +16,7 @@ pub struct Line {
 }
 
 impl Line {
-    /// Whether the line says what is wrong.
+    /// Returns whether the line says what is wrong.
     pub fn is_fault(&self) -> bool
         ensures { IsTrue result ↔ IsFault self.now }
     {

@@ -2,7 +2,7 @@
 ghost use Rattle.std.specs.Prelude.{◌≡◌};
 ghost use Rattle.tc_decoded.specs.Names.{text_of};
 
-/// What a line tells.
+/// The name of a line.
 #[derive(Clone, Copy)]
 pub(crate) enum Name {
     /// A transfer frame as a whole.
@@ -63,9 +63,9 @@ pub(crate) enum Name {
     ServiceType,
     /// The message of the service.
     MessageSubtype,
-    /// Who asks.
+    /// The source of a request.
     SourceId,
-    /// What a request carries.
+    /// The content of a request.
     ApplicationData,
     /// How a rehearsal spacecraft behaves.
     Outcome,
@@ -87,7 +87,7 @@ pub(crate) enum Name {
     TimeOffset,
     /// The CRC-16 of a packet.
     PacketErrorControl,
-    /// What an idle packet carries.
+    /// The content of an idle packet.
     IdleData,
     /// The state of the clock on board.
     TimeReferenceStatus,
@@ -97,7 +97,7 @@ pub(crate) enum Name {
     DestinationId,
     /// The time on board.
     Time,
-    /// What a report carries.
+    /// The content of a report.
     SourceData,
     /// The step of a request.
     Step,
@@ -115,9 +115,9 @@ pub(crate) enum Name {
     PacketOrderFlag,
     /// Always 3 if packets are not segmented.
     SegmentLengthId,
-    /// Where the first packet begins.
+    /// The place of the first packet.
     FirstHeaderPointer,
-    /// What a frame carries.
+    /// The content of a frame.
     DataField,
     /// Octets of a packet whose other octets are in other frames.
     PacketInProgress,
@@ -145,20 +145,20 @@ pub(crate) enum Name {
     FarmBCounter,
     /// V(R).
     ReportValue,
-    /// What a CLTU begins with.
+    /// The first two octets of a CLTU.
     StartSequence,
     /// How many codeblocks a CLTU has.
     Codeblocks,
-    /// What a CLTU ends with.
+    /// The last octets of a CLTU.
     TailSequence,
     /// A block that is no codeblock, and not the tail sequence.
     EndingBlock,
-    /// What was given.
+    /// All octets that were given.
     Octets,
 }
 
 impl Name {
-    /// The name, as it is printed.
+    /// Returns the name, as it is printed.
     pub(crate) fn text(self) -> &'static str
         ensures { result.now ≡ text_of self }
     {

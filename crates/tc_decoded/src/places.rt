@@ -1,9 +1,9 @@
-//! Where the octets of a layer stand in the whole text.
+//! The places of a layer's octets in the whole text.
 ghost use Rattle.std.specs.Prelude.{◌≡◌, ◌+◌, ◌<◌, ◌≤◌, ◌^◌};
 ghost use Rattle.tc_decoded.specs.Places.{coded_from, later, the_whole};
 ghost use Rattle.tc_decoded.specs.Rows.{place_of};
 
-/// Where the octets of a layer stand.
+/// The place of a layer's octets.
 #[derive(Clone, Copy)]
 pub(crate) struct Place {
     /// How many octets of the whole stand before the outermost layer.

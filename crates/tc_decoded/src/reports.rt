@@ -13,14 +13,14 @@ use tc_packets::{IDLE_APID, time_octets};
 /// The octets of a report besides its time and its source data.
 const AROUND: usize = 15;
 
-/// Whether a packet is an idle one.
+/// Returns whether a packet is an idle one.
 pub(crate) fn is_idle(octets: &[u8]) -> bool
     ensures { result ≡ is_idle octets.now }
 {
     bits_in(octets, 0, Span { bit: 5, bits: 11 }) == u64::from(IDLE_APID)
 }
 
-/// Returns where the source data begin.
+/// Returns the place of the source data.
 pub(crate) fn source_at(profile: &Profile) -> u32
     ensures value { result ≡ source_at profile.now }
     ensures small { result ≤ 19 }
@@ -91,14 +91,14 @@ pub(crate) fn source_row(profile: &Profile, octets: &[u8], fit: Fit) -> Row
     )
 }
 
-/// Whether a verification report of this subtype has a step.
+/// Returns whether a verification report of this subtype has a step.
 fn has_step(subtype: u64) -> bool
     ensures { result ≡ has_step subtype }
 {
     subtype == 5 || subtype == 6
 }
 
-/// Whether a verification report of this subtype has a code.
+/// Returns whether a verification report of this subtype has a code.
 fn has_code(subtype: u64) -> bool
     ensures { result ≡ has_code subtype }
 {

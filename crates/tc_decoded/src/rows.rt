@@ -1,5 +1,5 @@
 //! Rows of the tables of fields: where a field lies, how it is shown, and what it must be.
-ghost use Rattle.std.specs.Prelude.{◌≡◌, ◌+◌, ◌<◌, ◌≤◌, ◌^◌, length, slice_index, drop, take};
+ghost use Rattle.std.specs.Prelude.{◌≡◌, ◌+◌, ◌<◌, ◌≤◌, ◌^◌, slice_index, drop, take};
 ghost use Rattle.tc_octets.specs.Bits.{pair_at};
 ghost use Rattle.tc_decoded.specs.Rows.{bits_in, fits, room_of, value_of, window_of, word_code};
 
@@ -30,7 +30,7 @@ pub(crate) enum Shown {
     Offset,
 }
 
-/// What a value must be.
+/// A condition on a value.
 #[derive(Clone, Copy)]
 pub(crate) enum Fit {
     /// Any value.
@@ -94,7 +94,7 @@ pub(crate) struct Span {
     pub bits: u8,
 }
 
-/// Where a value comes from.
+/// The source of a value.
 #[derive(Clone, Copy)]
 pub(crate) enum Source {
     /// It is a field.
@@ -110,11 +110,11 @@ pub(crate) struct Row {
     pub name: Name,
     /// The octet of the layer in which it begins, from 0.
     pub octet: u32,
-    /// Where its value comes from.
+    /// The source of its value.
     pub source: Source,
     /// How its value is shown.
     pub shown: Shown,
-    /// What its value must be.
+    /// The condition on its value.
     pub fit: Fit,
     /// The word by which a reader refuses another value.
     pub word: Word,
@@ -209,7 +209,7 @@ pub(crate) fn value_of(octets: &[u8], row: &Row) -> u64
     }
 }
 
-/// Whether a value is what it must be.
+/// Returns whether a value meets its condition.
 pub(crate) fn is_fit(fit: &Fit, value: u64) -> bool
     ensures { result ≡ fits fit.now value }
 {

@@ -46,7 +46,7 @@ fn flag_in(octets: &[u8], bit: u8) -> u64
     bits_in(octets, 0, Span { bit, bits: 1 })
 }
 
-/// Whether a frame has a control command, and no packet.
+/// Returns whether a frame has a control command, and no packet.
 fn is_control(octets: &[u8]) -> bool
     ensures { result ≡ is_control octets.now }
 {
@@ -108,14 +108,14 @@ fn field_length(profile: &Profile, octets: &[u8]) -> usize
         .saturating_sub(check_octets(profile))
 }
 
-/// Whether the data field begins as Set V(R), and has as many octets.
+/// Returns whether the data field begins as Set V(R), and has as many octets.
 fn is_set_vr(profile: &Profile, octets: &[u8]) -> bool
     ensures { result ≡ is_set_vr profile.now octets.now }
 {
     octet_at(octets, HEADER) == SET_VR && field_length(profile, octets) == 3
 }
 
-/// Whether the data field is a control command.
+/// Returns whether the data field is a control command.
 fn is_command(profile: &Profile, octets: &[u8]) -> bool
     ensures { result ≡ is_command profile.now octets.now }
 {
@@ -162,7 +162,7 @@ fn put_segment<A: Allocator + Copy>(
     Ok(())
 }
 
-/// Returns where the packet of a frame begins.
+/// Returns the place of a frame's packet.
 fn packet_at(profile: &Profile) -> usize
     ensures value { result ≡ packet_at profile.now }
     ensures small { result ≤ 6 }
@@ -272,7 +272,7 @@ fn tell_carrier<A: Allocator + Copy>(
     tell(out, place, None, octets, &rows)
 }
 
-/// Whether a frame that is refused by this word, or taken, has a packet whose lines are told.
+/// Returns whether a frame that is refused by this word, or taken, has a packet whose lines are told.
 fn carries(word: Option<Word>, octets: &[u8]) -> bool
     ensures { result ≡ carries word octets.now }
 {

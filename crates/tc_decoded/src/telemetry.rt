@@ -33,14 +33,14 @@ fn report_word(profile: &Profile, octets: &[u8]) -> Option<Word>
     }
 }
 
-/// Whether a report is for the desk's source.
+/// Returns whether a report is for the desk's source.
 fn is_ours(profile: &Profile, octets: &[u8]) -> bool
     ensures { result ≡ is_ours profile.now octets.now }
 {
     pair_at(octets, 11) == profile.source
 }
 
-/// Whether a report is a verification report.
+/// Returns whether a report is a verification report.
 fn is_verification(octets: &[u8]) -> bool
     ensures { result ≡ is_verification octets.now }
 {
@@ -48,7 +48,7 @@ fn is_verification(octets: &[u8]) -> bool
     octet_at(octets, 7) == 1 && 1 <= subtype && subtype <= 8
 }
 
-/// Whether a report is a summary of the schedule.
+/// Returns whether a report is a summary of the schedule.
 fn is_summary(octets: &[u8]) -> bool
     ensures { result ≡ is_summary octets.now }
 {
@@ -140,7 +140,7 @@ fn tell_telemetry<A: Allocator + Copy>(
     tell(out, place, word, octets, &rows)
 }
 
-/// Whether a packet is of type 1.
+/// Returns whether a packet is of type 1.
 fn is_request(octets: &[u8]) -> bool
     ensures { result ≡ is_request octets.now }
 {

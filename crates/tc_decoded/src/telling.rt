@@ -24,7 +24,7 @@ fn filled(source: &Source) -> u64
     }
 }
 
-/// Whether a row is at fault, if the reader refuses the layer by this word.
+/// Returns whether a row is at fault, if the reader refuses the layer by this word.
 fn fails(word: Option<Word>, octets: &[u8], row: &Row) -> bool
     ensures { result ≡ fails word octets.now row.now }
 {

@@ -5,7 +5,6 @@ ghost use Rattle.tc_packets.specs.Receivers.{given_of};
 ghost use Rattle.tc_decoded.specs.Added.{Added};
 ghost use Rattle.tc_decoded.specs.Places.{the_whole};
 ghost use Rattle.tc_decoded.specs.Rows.{told};
-ghost use Rattle.tc_decoded.specs.Tables.{frame_check};
 ghost use Rattle.tc_decoded.specs.TmFrameLines.{DataTold, FieldsTold, GivenTold, OneTold, TmFrameTold, control_word_rows, given_length, has_packets};
 ghost use Rattle.tc_decoded.specs.TmFrameLines.{in_progress, left_rows, skips, tm_header_rows, tm_word, word_rows};
 
@@ -99,7 +98,7 @@ fn put_word<A: Allocator + Copy>(
     }
 }
 
-/// Whether the receiver of packets skips a frame with this status, whose data field has so many octets.
+/// Returns whether the receiver of packets skips a frame with this status, whose data field has so many octets.
 fn is_skipped(status: u16, size: usize) -> bool
     ensures { result ≡ skips status size }
 {
@@ -107,7 +106,7 @@ fn is_skipped(status: u16, size: usize) -> bool
     status / 0x800 != 3 || size <= pointer && pointer < IDLE_DATA
 }
 
-/// Whether packets are read from a frame.
+/// Returns whether packets are read from a frame.
 fn has_packets(profile: &Profile, frame: &TmFrame) -> bool
     ensures { result ≡ has_packets profile.now (tm_parts frame.now) }
 {

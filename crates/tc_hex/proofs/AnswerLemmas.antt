@@ -1,6 +1,5 @@
 -- One more line of an input, answered.
-use Rattle.std.proofs.Common.{◌≡◌, ◌∙◌, ◌<◌, ℕ, ◌+◌, zero, suc, Bool, true, false, ◌&&◌, nat_lt, List, [], ◌∷◌, ◌++◌, length, Option, Some, None, Result, Ok, Err, IfOk, IfSome, refl, sym, ap, append_assoc, append-nil, arith, rules, length-append}
-use Rattle.std.specs.Prelude.{if◌then◌else◌}
+use Rattle.std.proofs.Common.{◌≡◌, ◌∙◌, ◌<◌, ℕ, ◌+◌, Bool, true, false, ◌&&◌, nat_lt, List, [], ◌∷◌, ◌++◌, length, Option, Some, None, Result, Ok, Err, IfOk, IfSome, refl, sym, ap, append_assoc, append-nil, rules, length-append}
 use Rattle.std.specs.Io.BufRead.{drop_through, take_through}
 use Rattle.std.specs.Io.KnownBytes.{Appends}
 use Rattle.std.proofs.KnownBytes.{Appends-trans}
@@ -73,19 +72,6 @@ more_answered profile layer (Some given) input before output count are line answ
       answered_more profile layer false lines text are line answer is answered one,
       Appends-trans before output written text (set_apart (after_lines false lines) answer) out (rw (counted lines count number) at appends),
     )
-
-pub none_answered : (profile : Profile) (layer : Layer) (input output : Option (List ℕ)) → AnsweredFrom profile layer input input output output 0 true
-none_answered profile layer None output = tt
-none_answered profile layer (Some given) None = ([], given, [], refl, refl, refl, (refl, refl), tt)
-none_answered profile layer (Some given) (Some text) = ([], given, [], refl, refl, refl, (refl, refl), sym (append-nil text))
-
-pub all_answered : (profile : Profile) (layer : Layer) (given input before output next : Option (List ℕ)) (count : ℕ) (are : Bool)
-    → AnsweredFrom profile layer given input before output count are → IfSome input (λ rest. (rest ≡ []) × (next ≡ Some []))
-    → IfSome given (λ _. next ≡ Some []) × AnsweredFrom profile layer given next before output count are
-all_answered profile layer None input before output next count are so_far end = (tt, tt)
-all_answered profile layer (Some given) input before output next count are (lines, rest, text, left, begins, number, answered, out) end =
-    let found = rw left at end in
-    (found.1, (lines, [], text, found.1, rw (← found.0) begins, number, answered, out))
 
 -- an answer that was written after what stands before it
 pub put_apart : {E : Type 0} (r : Result Bool E) (P : List ℕ → Bool → Type 0) (old between new : Option (List ℕ)) (before : List ℕ) → Appends old between before

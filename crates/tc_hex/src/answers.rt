@@ -8,7 +8,7 @@ use std::alloc::{AllocError, Global};
 use tc_decoded::{Layer, Line, decoded, has_fault};
 use tc_octets::Profile;
 
-/// What a text is answered.
+/// The answer of a text.
 #[derive(Drop)]
 pub struct Answer {
     /// Its lines, each with an LF.

@@ -40,3 +40,13 @@ frame_there profile carried may =
     let least : 5 ≤ length (tc_frame_of profile carried) = omega (arith, frame_size profile carried) in
     subst (λ (l : List ℕ). IsFrameIn l (tc_frame_of profile carried)) (sym parts.1)
     (frame_in (tc_frame_of profile carried) parts.0 least (frame_told profile carried small) few)
+
+-- the same of octets that are a frame
+pub front_there : (profile : Profile) (carried : Carried) (octets : List ℕ) → IsCarried profile.tc carried → octets ≡ tc_frame_of profile carried
+    → IsFrameIn (turned_by profile.tc.randomizer (filled_of profile.tc.randomizer octets)) octets
+front_there profile carried octets may e =
+    subst (λ (l : List ℕ). IsFrameIn (turned_by profile.tc.randomizer (filled_of profile.tc.randomizer l)) l) (sym e) (frame_there profile carried may)
+
+pub short_there : (profile : Profile) (carried : Carried) (octets : List ℕ) → IsCarried profile.tc carried → octets ≡ tc_frame_of profile carried
+    → length octets ≤ 1024
+short_there profile carried octets may e = omega (arith, ap (λ (l : List ℕ). length l) e, frame_small profile carried may)

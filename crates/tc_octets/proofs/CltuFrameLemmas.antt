@@ -6,11 +6,8 @@ use Rattle.tc_octets.specs.Bits.{pair}
 use Rattle.tc_octets.specs.Crc.{crc_of}
 use Rattle.tc_octets.specs.TcFrames.{Carried, ad, unlock, set_vr, IsCarried, check_length, closed, data_field, header_of, segment_header, tc_frame_of}
 use Rattle.tc_octets.specs.Cltus.{told_length}
-use Rattle.tc_octets.specs.CltuFrames.{TcFrameComesBack}
-use Rattle.tc_octets.specs.declared.codeblocks.Mode.{Mode}
 use Rattle.tc_octets.specs.declared.profiles.Profile.{Profile}
 use Rattle.tc_octets.proofs.TcFrameLemmas.{closed_keeps}
-use Rattle.tc_octets.proofs.FrameBackLemmas.{frame_back}
 
 closed_size : (fecf : Bool) (octets : List ℕ) → length (closed fecf octets) ≡ length octets + check_length fecf
 closed_size false octets = omega arith
@@ -41,9 +38,3 @@ frame_told profile carried small =
     let fourth : get_or (tc_frame_of profile carried) 3 0 ≡ number % 256 =
     closed_keeps profile.tc.fecf (header_of profile carried ++ data_field profile.tc carried) 3 (omega arith) in
     omega (arith, third, fourth, frame_size profile carried)
-
-pub transfer_frame_back : (mode : Mode) → TcFrameComesBack mode
-transfer_frame_back mode profile carried noise may =
-    let small = frame_small profile carried may in
-    let least : 5 ≤ length (tc_frame_of profile carried) = omega (arith, frame_size profile carried) in
-    frame_back mode noise (tc_frame_of profile carried) profile.tc.randomizer least small (frame_told profile carried small)

@@ -11,14 +11,11 @@ use Rattle.tc_octets.specs.Codeblocks.{codeblock_of, error_control_of, bch_step,
 use Rattle.tc_octets.specs.Randomizer.{randomized_from, next_octet}
 use Rattle.tc_octets.specs.Bits.{octet_bits}
 use Rattle.tc_octets.specs.Cltus.{searching, within, received, after_block, codeblock_in, codeblocks_of, filled_to}
-use Rattle.tc_octets.specs.Cltus.{filled_of, turned_by, start_sequence, tail_sequence}
-use Rattle.tc_octets.specs.CltuRuns.{added, came, run, PiecesDoNotMatter, WholeCltuIsFound}
+use Rattle.tc_octets.specs.Cltus.{cltu_of, filled_of, turned_by, start_sequence, tail_sequence}
+use Rattle.tc_octets.specs.CltuRuns.{added, came, run}
 use Rattle.tc_octets.specs.declared.codeblocks.Mode.{Mode}
 use Rattle.tc_octets.specs.declared.codeblocks.Mode.TheVariants.{Detecting, Correcting}
 use Rattle.tc_octets.proofs.CltuLemmas.{read_below}
-
-pub pieces : (mode : Mode) → PiecesDoNotMatter mode
-pieces mode start first rest = fold-append (came mode) start first rest
 
 -- what was encoded is a codeblock, and read as itself
 encoded_is : (information : List ℕ) → length information ≡ 7 → is_codeblock (codeblock_of information) ≡ true
@@ -134,7 +131,11 @@ filled_length octets h =
     ∙ ap (λ n. length octets + n) (length-replicate ((7 - length octets % 7) % 7) 0x55) in
     (omega arith, omega arith)
 
-pub whole_found : (mode : Mode) → WholeCltuIsFound mode
+-- The CLTU of a frame of up to 1,024 octets, if a start sequence is looked for, gives the frame with its fill and nothing else; then the next is
+-- looked for.
+pub whole_found : (mode : Mode) (begun randomizer : Bool) (ended : List (List ℕ)) (frame : List ℕ) → length frame ≤ 1024
+    → run mode (record { place = searching begun; ended = ended }) (cltu_of randomizer frame)
+    ≡ record { place = searching false; ended = ended ++ filled_of randomizer frame ∷ [] }
 whole_found mode begun randomizer ended frame h =
     let octets = filled_of randomizer frame in
     let sizes = filled_length (turned_by randomizer frame) (omega (arith, turned_length randomizer frame)) in

@@ -1,14 +1,16 @@
 -- Two codeblocks differ in four bits at least, and the tail sequence from each codeblock in four.
-use Rattle.std.proofs.Common.{◌≡◌, ℕ, zero, suc, ◌/◌, ◌%◌, ◌^◌, ◌<◌, Bool, true, false, not, List, [], ◌∷◌, length, get_or, set, Some, None, refl}
-use Rattle.std.proofs.Common.{sym, ap, ◌∙◌, inl, inr, arith}
+use Rattle.std.proofs.Common.{◌≡◌, ℕ, zero, suc, ◌/◌, ◌%◌, ◌^◌, ◌<◌, ◌≤◌, Bool, true, false, not, List, [], ◌∷◌, length, get_or, set, Some, None, refl}
+use Rattle.std.proofs.Common.{sym, ap, ◌∙◌, inl, inr, arith, subst, Option}
+use Rattle.std.specs.List.{AllPairs}
 use Rattle.std.specs.Prelude.{◌≢◌, ◌==◌, ◌&&◌, bit_xor}
 use Rattle.std.specs.Int.Bits.{xor_assoc, xor_self, xor_zero_l, xor_zero_r}
 use Rattle.std.proofs.lemmas.Bool.{and_parts, cases_eq, cases_order, cond-true, cond-false, eqb-false, not-true}
 use Rattle.std.proofs.lemmas.List.{get_or-set_same, set-get_or, set-set}
 use lib.Count.{ones as count_ones}
 use Rattle.tc_octets.specs.Codeblocks.{codeblock_of, is_codeblock, mended_by, sent_of, turned, with_one_turned}
-use Rattle.tc_octets.specs.CodeblockLaws.{OneIsMended, TailIsRefused, ThreeAreFound, TwoAreRefused, WholeIsTaken, tail, turned_at}
+use Rattle.tc_octets.specs.CodeblockLaws.{Tells, tail, turned_at}
 use Rattle.tc_octets.specs.CrcLaws.{AllBelow}
+use Rattle.tc_octets.specs.declared.codeblocks.Mode.{Mode}
 use Rattle.tc_octets.specs.declared.codeblocks.Mode.TheVariants.{Detecting, Correcting}
 use Rattle.tc_octets.proofs.RegisterLemmas.{no_ones}
 use Rattle.tc_octets.proofs.SyndromeLemmas.{changes, codeblock_is, codeblock_length, codeblock_syndrome, not_codeblock, parity_turned, syndrome}
@@ -166,13 +168,15 @@ turned_back place block h long =
     ∙ ap (λ n. set block i n) (xor_assoc was m m ∙ ap (λ n. bit_xor was n) (xor_self m) ∙ xor_zero_r was)
     ∙ set-get_or block i 0
 
-pub whole_taken : WholeIsTaken
+whole_taken : (mode : Mode) (information : List ℕ) → length information ≡ 7
+    → sent_of mode (codeblock_of information) ≡ Some (codeblock_of information)
 unfolding sent_of
 whole_taken mode information long =
     cond-true (is_codeblock (codeblock_of information)) (Some (codeblock_of information)) (mended_by mode (codeblock_of information))
     (codeblock_is information long)
 
-pub three_found : ThreeAreFound
+three_found : (information places : List ℕ) → length information ≡ 7 → AllBelow 64 places → AllPairs (λ p q. p ≢ q) places → 1 ≤ length places
+    → length places ≤ 3 → sent_of Detecting (turned_at places (codeblock_of information)) ≡ None
 three_found information [] long all differ least most = absurd (omega arith)
 three_found information (p ∷ []) long all differ least most = detected _ (odd_of_codeblock information (p ∷ []) long all refl)
 three_found information (p ∷ q ∷ []) long all differ least most =
@@ -180,7 +184,8 @@ three_found information (p ∷ q ∷ []) long all differ least most =
 three_found information (p ∷ q ∷ r ∷ []) long all differ least most = detected _ (odd_of_codeblock information (p ∷ q ∷ r ∷ []) long all refl)
 three_found information (p ∷ q ∷ r ∷ s ∷ rest) long all differ least most = absurd (omega arith)
 
-pub one_mended : OneIsMended
+one_mended : (information : List ℕ) (place : ℕ) → length information ≡ 7 → place < 64
+    → sent_of Correcting (turned place (codeblock_of information)) ≡ Some (codeblock_of information)
 one_mended information place long h =
     let back = turned_back place (codeblock_of information) h (codeblock_length information long) in
     corrected _ (odd_of_codeblock information (place ∷ []) long (h, tt) refl)
@@ -188,13 +193,14 @@ one_mended information place long h =
     (λ other k ne. two_of_codeblock information other place long k h ne)
     ∙ ap Some back
 
-pub two_refused : TwoAreRefused
+two_refused : (information : List ℕ) (place other : ℕ) → length information ≡ 7 → place < 64 → other < 64 → place ≢ other
+    → sent_of Correcting (turned place (turned other (codeblock_of information))) ≡ None
 two_refused information place other long h k ne =
     corrected _ (two_of_codeblock information place other long h k ne)
     ∙ none_mends 64 (turned place (turned other (codeblock_of information)))
     (λ third m. odd_of_codeblock information (third ∷ place ∷ other ∷ []) long (m, (h, (k, tt))) refl)
 
-pub tail_refused : TailIsRefused
+tail_refused : (mode : Mode) (places : List ℕ) → AllBelow 64 places → length places ≤ 2 → sent_of mode (turned_at places tail) ≡ None
 tail_refused Detecting [] all few = detected _ whole_tail
 tail_refused Detecting (p ∷ []) all few = detected _ (odd_of_tail (p ∷ []) all refl)
 tail_refused Detecting (p ∷ q ∷ []) all few = detected _ (two_of_tail p q all.0 all.1.0)
@@ -204,3 +210,26 @@ tail_refused Correcting (p ∷ []) all few =
 tail_refused Correcting (p ∷ q ∷ []) all few =
     corrected _ (two_of_tail p q all.0 all.1.0) ∙ none_mends 64 (turned p (turned q tail)) (λ place h. odd_of_tail (place ∷ p ∷ q ∷ []) (h, all) refl)
 tail_refused mode (p ∷ q ∷ r ∷ rest) all few = absurd (omega arith)
+
+-- ---- all of it
+
+pub sent_tells : (mode : Mode) (block : List ℕ) → Tells mode block (sent_of mode block)
+sent_tells mode block = record {
+  whole = λ information long e. ap (λ (l : List ℕ). sent_of mode l) e ∙ whole_taken mode information long;
+  found =
+      λ detecting information places long all differ least most e. ap (λ (m : Mode). sent_of m block) detecting
+      ∙ ap (λ (l : List ℕ). sent_of Detecting l) e
+      ∙ three_found information places long all differ least most;
+  mended =
+      λ correcting information place long h e. ap (λ (m : Mode). sent_of m block) correcting
+      ∙ ap (λ (l : List ℕ). sent_of Correcting l) e
+      ∙ one_mended information place long h;
+  refused =
+      λ correcting information place other long h k ne e. ap (λ (m : Mode). sent_of m block) correcting
+      ∙ ap (λ (l : List ℕ). sent_of Correcting l) e
+      ∙ two_refused information place other long h k ne;
+  ended = λ places all few e. ap (λ (l : List ℕ). sent_of mode l) e ∙ tail_refused mode places all few;
+}
+
+pub tells : (mode : Mode) (block : List ℕ) (answer : Option (List ℕ)) → answer ≡ sent_of mode block → Tells mode block answer
+tells mode block answer e = subst (λ (o : Option (List ℕ)). Tells mode block o) (sym e) (sent_tells mode block)

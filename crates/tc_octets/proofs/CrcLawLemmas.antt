@@ -11,7 +11,7 @@ use Rattle.std.proofs.lemmas.List.Sums.{fold-append}
 use lib.Count.{ones as count_ones}
 use Rattle.tc_octets.specs.Bits.{bits_of}
 use Rattle.tc_octets.specs.Crc.{crc_step, crc_from, crc_of}
-use Rattle.tc_octets.specs.CrcLaws.{AllBelow, number_of_bits, ones, IsFound, BurstsAreFound, CrcIsLinear, OddErrorsAreFound, TwoErrorsAreFound}
+use Rattle.tc_octets.specs.CrcLaws.{AllBelow, AreFound, in_burst, laid, number_of_bits, odd_bits, ones, two_bits}
 use Rattle.tc_octets.proofs.RegisterLemmas.{all_laid, all_length, all_small, from_linear, no_ones, parity_kept}
 
 -- what a step gives: the shifted register alone, or with the generator over it
@@ -108,7 +108,8 @@ burst_some burst all few some e =
     let product = reads_zero 0 burst (omega arith) all few e in
     some (no_factor (number_of_bits burst) (2 ^ (16 - length burst)) (pow_pos (16 - length burst)) (sym product))
 
-pub bursts_found : BurstsAreFound
+bursts_found : (before after : ℕ) (burst : List ℕ) → AllBelow 2 burst → length burst ≤ 16 → number_of_bits burst ≢ 0
+    → crc_from 0 (replicate before 0 ++ burst ++ replicate after 0) ≢ 0
 bursts_found before after burst all few some e =
     let whole : crc_from 0 (replicate before 0 ++ burst ++ replicate after 0) ≡ crc_from (crc_from 0 burst) (replicate after 0) =
     fold-append crc_step 0 (replicate before 0 ++ burst) (replicate after 0)
@@ -117,7 +118,9 @@ bursts_found before after burst all few some e =
 
 -- ---- the CRC is linear
 
-pub crc_linear : CrcIsLinear
+-- The CRC of octets with errors laid over them is the CRC of the octets, with that of the errors laid over it, which is read from a register of zeros.
+pub crc_linear : (octets errors : List ℕ) → length octets ≡ length errors
+    → crc_of (laid octets errors) ≡ bit_xor (crc_of octets) (crc_from 0 (bits_of errors))
 unfolding crc_step
 crc_linear octets errors e =
     ap (λ l. crc_from 65535 l) (all_laid octets errors e)
@@ -125,8 +128,8 @@ crc_linear octets errors e =
     (all_length octets ∙ ap (λ n. 8 * n) e ∙ sym (all_length errors)) (all_small octets) (all_small errors)
 
 -- Errors that leave a register of zeros no zero are found in all octets.
-found_from : (errors : List ℕ) → crc_from 0 (bits_of errors) ≢ 0 → IsFound errors
-found_from errors some octets same e =
+found_from : (octets errors : List ℕ) → length octets ≡ length errors → crc_from 0 (bits_of errors) ≢ 0 → crc_of (laid octets errors) ≢ crc_of octets
+found_from octets errors same some e =
     some
     (sym (xor_zero_l (crc_from 0 (bits_of errors)))
     ∙ ap (λ n. bit_xor n (crc_from 0 (bits_of errors))) (sym (xor_self (crc_of octets)))
@@ -153,9 +156,6 @@ odd_some errors all odd e =
     let kept : count_ones (crc_from 0 errors) % 2 ≡ (count_ones 0 + ones errors) % 2 =
     parity_kept 15 4129 odd_mask (omega arith) 0 errors (omega arith) all in
     differ_in_parity (ones errors) (ap (λ n. n % 2) (sym (ap count_ones e ∙ no_ones)) ∙ kept ∙ ap (λ n. (n + ones errors) % 2) no_ones) odd
-
-pub odd_found : OddErrorsAreFound
-odd_found errors odd = found_from errors (odd_some (bits_of errors) (all_small errors) odd)
 
 -- ---- two wrong bits
 
@@ -251,5 +251,14 @@ two_some (zero ∷ errors) all few two = two_some errors all.1 (omega arith) (om
 two_some (suc zero ∷ errors) all few two = one_some 32766 4129 errors (omega arith) away_long (omega arith) all.1 (omega arith)
 two_some (suc (suc bit) ∷ errors) all few two = absurd (let h = all.0 in omega arith)
 
-pub two_found : TwoErrorsAreFound
-two_found errors few two = found_from errors (two_some (bits_of errors) (all_small errors) (let long = all_length errors in omega arith) two)
+-- ---- errors that are found
+
+errors_some : (errors : List ℕ) → AreFound errors → crc_from 0 (bits_of errors) ≢ 0
+errors_some errors (in_burst before after inner all few some is) e =
+    bursts_found before after inner all few some (ap (λ (l : List ℕ). crc_from 0 l) (sym is) ∙ e)
+errors_some errors (odd_bits is) e = odd_some (bits_of errors) (all_small errors) is e
+errors_some errors (two_bits few are) e =
+    two_some (bits_of errors) (all_small errors) (let long = all_length errors in omega arith) are e
+
+pub errors_found : (octets errors : List ℕ) → length octets ≡ length errors → AreFound errors → crc_of (laid octets errors) ≢ crc_of octets
+errors_found octets errors same are = found_from octets errors same (errors_some errors are)

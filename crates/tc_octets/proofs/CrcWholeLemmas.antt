@@ -1,5 +1,6 @@
 -- Octets with their CRC behind them have the CRC 0, and with no other check.
 use Rattle.std.proofs.Common.{◌≡◌, ℕ, zero, suc, ◌+◌, ◌-◌, ◌*◌, ◌/◌, ◌%◌, ◌^◌, ◌<◌, ◌≤◌, List, [], ◌∷◌, ◌++◌, length, refl, sym, ap, ◌∙◌, subst, inl}
+use Rattle.std.specs.Prelude.{◌≢◌, ◌↔◌}
 use Rattle.std.proofs.Common.{inr, arith, one-add, zero-add, zero-mul, one-mul, pow-suc, add-mul, add_assoc, mul_assoc, mul-one}
 use Rattle.std.proofs.Common.{mul-lt-mul_of_pos_right}
 use Rattle.std.proofs.lemmas.Nat.{mod-pow-add, pow-add, pow_pos}
@@ -8,8 +9,8 @@ use Rattle.std.proofs.lemmas.List.Concat.{flat_map-append}
 use Rattle.std.proofs.lemmas.List.Sums.{fold-append}
 use Rattle.tc_octets.specs.Bits.{bits, bits_of, octet_bits, pair}
 use Rattle.tc_octets.specs.Crc.{crc_from, crc_of, crc_step}
-use Rattle.tc_octets.specs.CrcLaws.{AllBelow, CrcOfTheWhole, number_of_bits}
-use Rattle.tc_octets.proofs.CrcLawLemmas.{from_small, reads_zero, step_tells}
+use Rattle.tc_octets.specs.CrcLaws.{AllBelow, IsDamaged, Shows, number_of_bits}
+use Rattle.tc_octets.proofs.CrcLawLemmas.{errors_found, from_small, reads_zero, step_tells}
 use Rattle.tc_octets.proofs.RegisterLemmas.{all_length, all_small}
 
 -- ---- bits as numbers
@@ -111,7 +112,8 @@ scaled check small =
     ∙ mul-one (number_of_bits (bits_of (pair check)))
     ∙ number_of_pair check small
 
-pub whole_zero : CrcOfTheWhole
+-- If two octets stand after others, the CRC of the whole is 0 exactly if they are the CRC of the others.
+pub whole_zero : (octets : List ℕ) (check : ℕ) → check < 2 ^ 16 → (crc_of (octets ++ pair check) ≡ 0) ↔ (check ≡ crc_of octets)
 whole_zero octets check small =
     let behind = bits_of (pair check) in
     let long : length behind ≤ 16 = omega (arith, all_length (pair check)) in (
@@ -120,3 +122,23 @@ whole_zero octets check small =
           ∙ scaled check small),
       λ e. whole_from octets check ∙ reads_itself (crc_of octets) behind (all_small (pair check)) long (sym e ∙ sym (scaled check small)),
     )
+
+pub crc_shows : (octets : List ℕ) (check : ℕ) → check ≡ crc_of octets → Shows octets check
+crc_shows octets check e =
+    let shows : Shows octets (crc_of octets) =
+    record { found = λ errors same are. errors_found octets errors same are; whole = λ last small. whole_zero octets last small } in
+    subst (λ (n : ℕ). Shows octets n) (sym e) shows
+
+-- octets that are closed by their CRC have the CRC 0
+pub closed_zero : (octets : List ℕ) → crc_of (octets ++ pair (crc_of octets)) ≡ 0
+closed_zero octets = (whole_zero octets (crc_of octets) (from_small 65535 (bits_of octets) (omega arith))).1 refl
+
+-- damaged octets do not
+pub damage_found : (octets : List ℕ) → IsDamaged octets → crc_of octets ≢ 0
+damage_found octets bad e =
+    errors_found (bad.inside ++ pair (crc_of bad.inside)) bad.errors bad.long bad.found
+    (ap (λ (l : List ℕ). crc_of l) (sym bad.came) ∙ e ∙ sym (closed_zero bad.inside))
+
+-- so they are not closed by their CRC
+pub damage_shows : (octets rest : List ℕ) → IsDamaged octets → octets ≡ rest ++ pair (crc_of rest) → ⊥
+damage_shows octets rest bad e = damage_found octets bad (ap (λ (l : List ℕ). crc_of l) e ∙ closed_zero rest)

@@ -1,15 +1,12 @@
 -- A frame comes back through its CLTU and the randomizer.
 use Rattle.std.proofs.Common.{◌≡◌, ℕ, ◌+◌, ◌-◌, ◌*◌, ◌%◌, ◌^◌, ◌≤◌, Bool, true, false, List, [], ◌∷◌, ◌++◌, take, length, get_or, replicate}
-use Rattle.std.proofs.Common.{refl, sym, ap, ◌∙◌, subst, arith}
+use Rattle.std.proofs.Common.{refl, sym, ap, ◌∙◌, arith}
 use Rattle.std.specs.Prelude.{bit_xor}
 use Rattle.std.proofs.lemmas.List.{length-append, length-replicate, get_or_append_left, take_at}
 use Rattle.tc_octets.specs.Randomizer.{randomized, randomized_from, next_octet}
 use Rattle.tc_octets.specs.Cltus.{IsFrameIn, told_length, filled_of, turned_by}
-use Rattle.tc_octets.specs.CltuRuns.{Run, FrameComesBack}
-use Rattle.tc_octets.specs.declared.codeblocks.Mode.{Mode}
 use Rattle.tc_octets.proofs.RandomizerLemmas.{twice}
 use Rattle.tc_octets.proofs.CltuRunLemmas.{randomized_length}
-use Rattle.tc_octets.proofs.IdleLemmas.{found_after_noise}
 
 -- the sequence laid over two lists, one after the other
 randomized_append : (window : ℕ) (a b : List ℕ) → (later : ℕ)
@@ -46,12 +43,3 @@ frame_in frame fill h told few =
       has = record { header = omega (arith, size); whole = omega (arith, size, says); fill = omega (arith, size, says) };
       is = sym (ap (λ n. take n (frame ++ fill)) says ∙ take_at frame fill (length frame) refl);
     }
-
-pub frame_back : (mode : Mode) → FrameComesBack mode
-frame_back mode noise frame randomizer least most told =
-    let parts = filled_back randomizer frame in
-    let few : length parts.0 ≤ 6 = omega (arith, parts.2) in (
-      filled_of randomizer frame,
-      ap (λ (r : Run). r.ended) (found_after_noise mode noise frame randomizer most),
-      subst (λ (l : List ℕ). IsFrameIn l frame) (sym parts.1) (frame_in frame parts.0 least told few),
-    )

@@ -8,8 +8,8 @@ use Rattle.std.proofs.lemmas.List.{append_assoc, append-nil, length-append, leng
 use Rattle.std.proofs.lemmas.List.Sums.{fold-append}
 use Rattle.tc_octets.specs.Codeblocks.{sent_of, is_codeblock, bch_step, with_one_turned}
 use Rattle.tc_octets.specs.Bits.{octet_bits}
-use Rattle.tc_octets.specs.Cltus.{Place, searching, within, Found, come, received, whole_block, after_block, codeblock_in, waits, cltu_of}
-use Rattle.tc_octets.specs.CltuRuns.{Run, came, run, idle, FoundAfterNoise, IdleBringsSearch}
+use Rattle.tc_octets.specs.Cltus.{Place, searching, within, Found, come, received, whole_block, after_block, codeblock_in, waits, cltu_of, filled_of, Receiver}
+use Rattle.tc_octets.specs.CltuRuns.{IdleRestores, Run, came, run, idle}
 use Rattle.tc_octets.specs.declared.codeblocks.Mode.{Mode}
 use Rattle.tc_octets.specs.declared.codeblocks.Mode.TheVariants.{Detecting, Correcting}
 use Rattle.tc_octets.proofs.CltuLemmas.{too_few, block_there, looked_few}
@@ -182,8 +182,12 @@ place_idle mode (within information waiting) h =
     ap (λ l. places mode (within information l) (idle 15)) (sym (append-nil waiting))
     ∙ within_idle mode (length waiting) information waiting 0 (omega arith) (omega arith)
 
-pub idle_brings : (mode : Mode) → IdleBringsSearch mode
-idle_brings mode start h = run_place mode start (idle 15) ∙ place_idle mode start.place h
+pub idle_restores : (receiver : Receiver) → waits receiver.last.place < 8 → IdleRestores receiver
+idle_restores receiver few = record {
+  place =
+      λ ended. run_place receiver.mode (record { place = receiver.last.place; ended = ended }) (idle 15)
+      ∙ place_idle receiver.mode receiver.last.place few;
+}
 
 -- ---- fewer than eight octets ever wait
 
@@ -220,7 +224,14 @@ places_few mode place (octet ∷ octets) h = places_few mode (next mode place oc
 same_run : (start : Run) (place : Place) → start.place ≡ place → start ≡ record { place = place; ended = start.ended }
 same_run start place e = λ i. record { place = e i; ended = start.ended }
 
-pub found_after_noise : (mode : Mode) → FoundAfterNoise mode
+-- After any noise and fifteen octets of idle a whole CLTU is found: the receiver gives what the noise gave, and then the frame with its fill.
+pub found_after_noise : (mode : Mode) (noise frame : List ℕ) (randomizer : Bool) → length frame ≤ 1024
+    → run mode (record { place = searching false; ended = [] }) (noise ++ idle 15 ++ cltu_of randomizer frame)
+    ≡ record {
+      place = searching false;
+      ended = (run mode (record { place = searching false; ended = [] }) (noise ++ idle 15)).ended
+          ++ filled_of randomizer frame ∷ [];
+    }
 found_after_noise mode noise frame randomizer h =
     let there : (run mode (record { place = searching false; ended = [] }) (noise ++ idle 15)).place ≡ searching false =
     run_place mode (record { place = searching false; ended = [] }) (noise ++ idle 15)

@@ -1,18 +1,21 @@
 -- Streams of marked frames: pieces, whole streams, and what waits.
 use Rattle.std.proofs.Common.{◌≡◌, ℕ, zero, suc, ◌+◌, ◌<◌, ◌≤◌, true, List, [], ◌∷◌, ◌++◌, take, drop, length, refl, sym, ap, ◌∙◌, subst, inl, inr}
 use Rattle.std.proofs.Common.{arith}
-use Rattle.std.specs.List.{fold}
 use Rattle.std.proofs.lemmas.Bool.{cases_Bool, cases_lt}
-use Rattle.std.proofs.lemmas.List.{append-nil, append_assoc, drop-append-le, length-append, length-drop, take-append-le, take_at}
-use Rattle.tc_octets.specs.Markers.{FewWait, Heard, MarkedFramesAreHeard, MarkedPiecesDoNotMatter, OctetsAreHeard, behind, first_heard, heard}
-use Rattle.tc_octets.specs.Markers.{is_tm_frame, joined, marked, marker, may_begin}
+use Rattle.std.proofs.lemmas.List.{drop-append-le, length-append, length-drop, take-append-le, take_at}
+use Rattle.tc_octets.specs.Markers.{GoesOn, Heard, IsHeard, Listener, after, behind, first_heard, heard, is_tm_frame, marker, may_begin}
 use Rattle.tc_octets.specs.TmFrames.{IsTmFrame, TmParts, tm_frame_of}
 use Rattle.tc_octets.specs.declared.profiles.Profile.{Profile}
-use Rattle.tc_octets.proofs.MarkerLemmas.{begins_more, begins_not, heard_at, marker_begins, nothing_heard, place_fault, place_found, place_passed}
+use Rattle.tc_octets.proofs.MarkerLemmas.{begins_more, begins_not, heard_at, marker_begins, place_fault, place_found, place_passed}
 use Rattle.tc_octets.proofs.MarkerLemmas.{place_waits}
 use Rattle.tc_octets.proofs.MarkerFrameLemmas.{frame_is, frame_length}
 
 -- ---- pieces
+
+-- what is heard once more octets came
+abbrev joined : Profile → Heard → List ℕ → Heard
+joined profile before octets =
+    record { frames = before.frames ++ (heard profile 0 (before.waits ++ octets)).frames; waits = (heard profile 0 (before.waits ++ octets)).waits }
 
 behind_more : (profile : Profile) (octets more : List ℕ) → profile.tm.length + 4 ≤ length octets
     → behind profile (octets ++ more) ≡ behind profile octets
@@ -54,22 +57,25 @@ pieces_from profile zero (octet ∷ first) rest h =
           ∙ ap (λ r. joined profile r rest) (sym (place_passed profile some next after not_here))
     ]
 
-pub pieces : MarkedPiecesDoNotMatter
+-- However a stream is cut into pieces, the same is heard.
+pieces : (profile : Profile) (first rest : List ℕ) → heard profile 0 (first ++ rest) ≡ joined profile (heard profile 0 first) rest
 pieces profile first rest = pieces_from profile 0 first rest (omega arith)
 
 -- ---- octet by octet
 
-octets_from : (profile : Profile) (first rest : List ℕ)
-    → fold (λ before octet. joined profile before (octet ∷ [])) (heard profile 0 first) rest ≡ heard profile 0 (first ++ rest)
-octets_from profile first [] = ap (heard profile 0) (sym (append-nil first))
-octets_from profile first (octet ∷ rest) =
-    ap (λ r. fold (λ before octet. joined profile before (octet ∷ [])) r rest) (sym (pieces profile first (octet ∷ [])))
-    ∙ octets_from profile (first ++ octet ∷ []) rest
-    ∙ ap (heard profile 0) (append_assoc first (octet ∷ []) rest)
-
-pub octets_heard : OctetsAreHeard
-octets_heard profile stream =
-    ap (λ r. fold (λ before octet. joined profile before (octet ∷ [])) r stream) (sym (nothing_heard profile)) ∙ octets_from profile [] stream
+pub goes_on : (old new : Listener) (octet : ℕ) → new ≡ after old octet → GoesOn old new octet
+goes_on old new octet e =
+    let one : GoesOn old (after old octet) octet =
+    record {
+      hears =
+          λ stream same. pieces old.profile stream (octet ∷ [])
+          ∙ ap (λ (l : List ℕ). record {
+            frames = (heard old.profile 0 stream).frames ++ (heard old.profile 0 (l ++ octet ∷ [])).frames;
+            waits = (heard old.profile 0 (l ++ octet ∷ [])).waits;
+          })
+          (sym same);
+    } in
+    subst (λ (l : Listener). GoesOn old l octet) (sym e) one
 
 -- ---- what waits
 
@@ -95,8 +101,9 @@ few_from profile zero (octet ∷ rest) =
           (few_from profile 0 rest)
     ]
 
-pub few_wait_at_the_end : FewWait
-few_wait_at_the_end profile stream = few_from profile 0 stream
+pub few_after : (old new : Listener) (octet : ℕ) → new ≡ after old octet → length new.last.waits < new.profile.tm.length + 4
+few_after old new octet e =
+    subst (λ (l : Listener). length l.last.waits < l.profile.tm.length + 4) (sym e) (few_from old.profile 0 (old.last.waits ++ octet ∷ []))
 
 -- ---- marked frames
 
@@ -122,7 +129,8 @@ one_heard profile frame rest is =
     ∙ ap (λ l. first_heard l (heard profile (profile.tm.length + 3) (0xcf ∷ 0xfc ∷ 0x1d ∷ (octets ++ rest)))) behind_it
     ∙ ap (λ r. first_heard octets r) (passed_over profile (profile.tm.length + 3) (0xcf ∷ 0xfc ∷ 0x1d ∷ octets) rest (omega arith))
 
-pub frames_heard : MarkedFramesAreHeard
-frames_heard profile [] are = nothing_heard profile
-frames_heard profile (frame ∷ frames) are =
-    one_heard profile frame (marked profile frames) are.0 ∙ ap (λ r. first_heard (tm_frame_of profile frame) r) (frames_heard profile frames are.1)
+pub first_there : (profile : Profile) (frame : TmParts) (octets : List ℕ) → IsTmFrame profile frame → octets ≡ tm_frame_of profile frame
+    → IsHeard profile octets
+first_there profile frame octets is e =
+    let there : IsHeard profile (tm_frame_of profile frame) = record { first = λ rest. one_heard profile frame rest is } in
+    subst (λ (l : List ℕ). IsHeard profile l) (sym e) there

@@ -1,4 +1,4 @@
--- A text has one answer, a printed profile comes back, and different profiles have different texts.
+-- A text has one answer, and that of a printed profile is the profile.
 use Rattle.std.proofs.Common.{◌≡◌, ◌⊎◌, inl, inr, ℕ, ℤ, pos, negsuc, ◌-◌, ◌%◌, ◌<◌, ◌≤◌, ◌^◌, Bool, true, false, Option, Some, None, Result, Ok, Err}
 use Rattle.std.proofs.Common.{List, length, take, get_or, refl, subst, ap, ◌∙◌, sym, ⊎_elim, arith}
 use Rattle.std.specs.Prelude.{codes, IsNone, IsSome}
@@ -24,7 +24,7 @@ use Rattle.tc_octets.specs.declared.profile_texts.ProfileFault.{ProfileFault}
 use Rattle.tc_octets.specs.Epochs.{IsEpoch}
 use Rattle.tc_octets.specs.ProfileKeys.{name_of, spelled, IsValue, IsNumber, yes_no, map_word, fine_word}
 use Rattle.tc_octets.specs.ProfileTexts.{Said, blank, setting, bad, statements, value_in, Says, AreSound, IsFirstFault, Clashes, IsReadable}
-use Rattle.tc_octets.specs.ProfileTexts.{IsProfile, ProfileReads, Refuses, profile_text, OneAnswer, ProfilesComeBack, ProfileTextsDiffer}
+use Rattle.tc_octets.specs.ProfileTexts.{IsProfile, ProfileReads, Refuses, profile_text, IsOnly, ReadsPrinted}
 use Rattle.tc_octets.proofs.ProfileTextLemmas.{name_tells}
 use Rattle.tc_octets.proofs.ProfileValueLemmas.{no_word}
 use Rattle.tc_octets.proofs.ProfileLineLemmas.{value_word, text_short, text_says, settings_give, settings_sound, settings_with}
@@ -261,7 +261,8 @@ not_refused text profile line word h (clash e f l c) =
     let bad : false ≡ true = sym fecf ∙ checked in absurd (cc)
 not_refused text profile line word h (fault e f) = not_sound text line word h.0 f
 
-pub one_answer : OneAnswer
+-- a text has one answer
+one_answer : (text : List ℕ) (a b : Result Profile ProfileFault) → ProfileReads text a → ProfileReads text b → a ≡ b
 one_answer text (Ok a) (Ok b) h k = ap Ok (same_profile a b h.1 k.1 (λ key. h.2 key ∙ sym (k.2 key)))
 one_answer text (Ok a) (Err g) h k = absurd (not_refused text a g.line g.word h (how text g.line g.word k))
 one_answer text (Err f) (Ok b) h k = absurd (not_refused text b f.line f.word k (how text f.line f.word h))
@@ -310,11 +311,14 @@ reads_back profile h =
     λ place below. settings_sound (spelled profile) values place (omega arith) in
     (record { short = text_short (spelled profile) words; sound = rw said sound }, h, λ key. rw said (sym (settings_give (spelled profile) key)))
 
-pub comes_back : ProfilesComeBack
-comes_back profile read h r = one_answer (profile_text profile) read (Ok profile) r (reads_back profile h)
+-- ---- what holds of an answer
 
-pub texts_differ : ProfileTextsDiffer
-texts_differ a b h k e =
-    let P : List ℕ → Type 0 = λ text. ProfileReads text (Ok a) in
-    let back : ProfileReads (profile_text b) (Ok a) = subst P e (reads_back a h) in
-    let same : ◌≡◌ {A = Result Profile ProfileFault} (Ok a) (Ok b) = one_answer (profile_text b) (Ok a) (Ok b) back (reads_back b k) in cc
+pub is_only : (text : List ℕ) (answer : Result Profile ProfileFault) → ProfileReads text answer → IsOnly text answer
+is_only text answer says = record { only = λ other h. one_answer text other answer h says }
+
+pub reads_printed : (text : List ℕ) (answer : Result Profile ProfileFault) → ProfileReads text answer → ReadsPrinted text answer
+reads_printed text answer says = record {
+  printed =
+      λ profile h e. one_answer (profile_text profile) answer (Ok profile) (subst (λ (l : List ℕ). ProfileReads l answer) e says)
+      (reads_back profile h);
+}

@@ -38,3 +38,6 @@ twice octets = twice_from 255 octets
 -- all octets are done
 pub all_randomized : (window i : ℕ) (octets : List ℕ) → length octets ≤ i → take i octets ++ randomized_from window (drop i octets) ≡ octets
 all_randomized window i octets h = rw (take_all i octets h, drop_all i octets h) (append-nil octets)
+
+pub undone : (before after : List ℕ) → after ≡ randomized before → randomized after ≡ before
+undone before after e = ap (λ (l : List ℕ). randomized l) e ∙ twice before

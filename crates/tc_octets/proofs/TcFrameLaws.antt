@@ -1,14 +1,19 @@
 -- What holds of telecommand frames: a reader finds nothing to say against a frame, and a frame has one content.
 use Rattle.std.proofs.Common.{◌≡◌, ℕ, ◌+◌, ◌-◌, ◌*◌, ◌/◌, ◌%◌, ◌^◌, ◌<◌, ◌≤◌, Bool, true, false, List, ◌++◌, take, length, get_or, Ok, Err, refl, sym}
-use Rattle.std.proofs.Common.{ap, ◌∙◌, arith}
+use Rattle.std.proofs.Common.{ap, ◌∙◌, subst, arith}
+use Rattle.std.specs.Prelude.{Result, IsErr, IsOkAnd}
 use Rattle.std.proofs.lemmas.List.{take_at, length-append, append_cancel_left, get_or-append-add}
 use Rattle.tc_octets.specs.Bits.{pair, pair_at}
 use Rattle.tc_octets.specs.Crc.{crc_of}
+use Rattle.tc_octets.specs.CrcLaws.{IsDamaged}
 use Rattle.tc_octets.specs.TcFrames.{Carried, ad, unlock, set_vr, carried_of, check_length, closed, data_field, flags_of, segment_header, header_of}
-use Rattle.tc_octets.specs.TcFrames.{tc_frame_of, IsCarried, Passes, TcFramesComeBack, TcFramesDiffer}
+use Rattle.tc_octets.specs.TcFrames.{tc_frame_of, IsCarried, Passes, Reads, ReadsBack}
 use Rattle.tc_octets.specs.declared.profiles.TcChannel.{TcChannel}
 use Rattle.tc_octets.specs.declared.profiles.Profile.{Profile}
+use Rattle.tc_octets.specs.declared.tc_frames.TcFault.{TcFault}
 use Rattle.tc_octets.specs.declared.tc_frames.TcFault.TheVariants as faults
+use Rattle.tc_octets.specs.declared.tc_frames.TcFrame.{TcFrame}
+use Rattle.tc_octets.proofs.CrcWholeLemmas.{damage_shows}
 use Rattle.tc_octets.proofs.TcFrameLemmas.{check_small, closed_keeps, flags_small, PartsOf, parts_there, parts_of_frame}
 
 pub closed_length : (fecf : Bool) (octets : List ℕ) → length (closed fecf octets) ≡ length octets + check_length fecf
@@ -107,7 +112,8 @@ one_carried profile octets (set_vr v) (ad m q) x y = absurd (omega (arith, x.fla
 one_carried profile octets (set_vr v) unlock x y = absurd (omega (arith, ap length (sym x.field ∙ y.field)))
 one_carried profile octets (set_vr v) (set_vr w) x y = ap (λ k. set_vr k) (ap (λ (l : List ℕ). get_or l 2 0) (sym x.field ∙ y.field))
 
-pub frames_differ : TcFramesDiffer
+-- different frames have different octets
+pub frames_differ : (profile : Profile) (a b : Carried) → tc_frame_of profile a ≡ tc_frame_of profile b → a ≡ b
 frames_differ profile a b e =
     one_carried profile (tc_frame_of profile a) a b (parts_there profile a profile.scid_fits)
     (parts_of_frame profile b (tc_frame_of profile a) profile.scid_fits e)
@@ -119,7 +125,9 @@ no_other_kind profile octets (ad ns packet) parts none three = none parts.flags
 no_other_kind profile octets unlock parts none three = three parts.flags
 no_other_kind profile octets (set_vr vr) parts none three = three parts.flags
 
-pub frames_come_back : TcFramesComeBack
+-- what a reader says of the octets of a frame is that frame
+pub frames_come_back : (profile : Profile) (carried : Carried) (read : Result TcFrame TcFault) → IsCarried profile.tc carried
+    → Reads profile (tc_frame_of profile carried) read → IsOkAnd read (λ frame. carried_of frame ≡ carried)
 frames_come_back profile carried (Ok frame) h says = frames_differ profile (carried_of frame) carried (sym says.1)
 frames_come_back profile carried (Err faults.Length) h says = let passes = passes_there profile carried h in says passes.long
 frames_come_back profile carried (Err faults.Check) h says = let passes = passes_there profile carried h in says.1 passes.checked
@@ -129,3 +137,15 @@ frames_come_back profile carried (Err faults.Channel) h says = let passes = pass
 frames_come_back profile carried (Err faults.Kind) h says =
     no_other_kind profile (tc_frame_of profile carried) carried (parts_there profile carried profile.scid_fits) says.1 says.2
 frames_come_back profile carried (Err faults.Content) h says = says.2 carried (h, refl)
+
+pub reads_back : (profile : Profile) (octets : List ℕ) (read : Result TcFrame TcFault) → Reads profile octets read → ReadsBack profile octets read
+reads_back profile octets read says = record {
+  back = λ carried may e. frames_come_back profile carried read may (subst (λ (l : List ℕ). Reads profile l read) e says);
+}
+
+pub damaged_refused : (profile : Profile) (octets : List ℕ) (read : Result TcFrame TcFault) → Reads profile octets read → profile.tc.fecf ≡ true
+    → IsDamaged octets → IsErr read
+damaged_refused profile octets (Ok frame) says fecf bad =
+    let front = header_of profile (carried_of frame) ++ data_field profile.tc (carried_of frame) in
+    absurd (damage_shows octets front bad (says.1 ∙ ap (λ (b : Bool). closed b front) fecf))
+damaged_refused profile octets (Err fault) says fecf bad = refl

@@ -1,13 +1,18 @@
 -- What holds of telemetry frames: a reader finds nothing to say against a frame, and a frame has one content.
 use Rattle.std.proofs.Common.{◌≡◌, ℕ, ◌+◌, ◌-◌, ◌*◌, ◌/◌, ◌%◌, ◌^◌, ◌<◌, ◌≤◌, Bool, List, ◌++◌, take, drop, length, get_or, Ok, Err, Option, Some}
-use Rattle.std.proofs.Common.{None, refl, sym, ap, ◌∙◌, arith}
+use Rattle.std.proofs.Common.{None, refl, sym, ap, ◌∙◌, subst, arith, true}
+use Rattle.std.specs.Prelude.{Result, IsErr, IsOkAnd}
 use Rattle.std.proofs.lemmas.List.{take_at, drop_at, length-append, append-nil}
 use Rattle.tc_octets.specs.Bits.{pair_at}
+use Rattle.tc_octets.specs.CrcLaws.{IsDamaged}
 use Rattle.tc_octets.specs.TcFrames.{check_length, closed}
 use Rattle.tc_octets.specs.TmFrames.{TmParts, tm_parts, four, word_flag, word_octets, tm_header_of, tm_frame_of, IsTmFrame, IsTmLong, IsTmChecked}
-use Rattle.tc_octets.specs.TmFrames.{TmFramesComeBack, TmFramesDiffer}
+use Rattle.tc_octets.specs.TmFrames.{TmReads, TmReadsBack}
 use Rattle.tc_octets.specs.declared.profiles.Profile.{Profile}
+use Rattle.tc_octets.specs.declared.tm_frames.TmFault.{TmFault}
 use Rattle.tc_octets.specs.declared.tm_frames.TmFault.TheVariants as faults
+use Rattle.tc_octets.specs.declared.tm_frames.TmFrame.{TmFrame}
+use Rattle.tc_octets.proofs.CrcWholeLemmas.{damage_shows}
 use Rattle.tc_octets.proofs.TcFrameLemmas.{closed_front, closed_keeps}
 use Rattle.tc_octets.proofs.TcFrameLaws.{closed_length, closed_checked, two_are}
 
@@ -93,7 +98,9 @@ parts_same a b v m c s l w =
     ∙ ap (λ x. made b.vcid b.master_count b.channel_count b.status x a.word) l
     ∙ ap (λ x. made b.vcid b.master_count b.channel_count b.status b.content x) w
 
-pub tm_differ : TmFramesDiffer
+-- different frames have different octets
+pub tm_differ : (profile : Profile) (a b : TmParts) → IsTmFrame profile a → IsTmFrame profile b → tm_frame_of profile a ≡ tm_frame_of profile b
+    → a ≡ b
 tm_differ profile a b h k same =
     let e : front_of profile a ≡ front_of profile b = closed_same profile.tm.fecf (front_of profile a) (front_of profile b) same in
     let first =
@@ -106,9 +113,23 @@ tm_differ profile a b h k same =
     parts_same a b channel.0 (ap (λ (l : List ℕ). get_or l 2 0) e) (ap (λ (l : List ℕ). get_or l 3 0) e)
     (pair_same a.status b.status (ap (λ (l : List ℕ). get_or l 4 0) e) (ap (λ (l : List ℕ). get_or l 5 0) e)) rest.0 rest.1
 
-pub tm_come_back : TmFramesComeBack
+-- what a reader says of the octets of a frame is that frame
+pub tm_come_back : (profile : Profile) (parts : TmParts) (read : Result TmFrame TmFault) → IsTmFrame profile parts
+    → TmReads profile (tm_frame_of profile parts) read → IsOkAnd read (λ frame. tm_parts frame ≡ parts)
 tm_come_back profile parts (Ok frame) h says = tm_differ profile (tm_parts frame) parts says.0 h (sym says.1)
 tm_come_back profile parts (Err faults.Length) h says = let passes = passes_there profile parts h in says passes.long
 tm_come_back profile parts (Err faults.Check) h says = let passes = passes_there profile parts h in says.1 passes.checked
 tm_come_back profile parts (Err faults.Version) h says = let passes = passes_there profile parts h in says.2 passes.version
 tm_come_back profile parts (Err faults.Spacecraft) h says = let passes = passes_there profile parts h in says.3 passes.spacecraft
+
+pub reads_back : (profile : Profile) (octets : List ℕ) (read : Result TmFrame TmFault) → TmReads profile octets read
+    → TmReadsBack profile octets read
+reads_back profile octets read says =
+    record { back = λ parts is e. tm_come_back profile parts read is (subst (λ (l : List ℕ). TmReads profile l read) e says) }
+
+pub damaged_refused : (profile : Profile) (octets : List ℕ) (read : Result TmFrame TmFault) → TmReads profile octets read → profile.tm.fecf ≡ true
+    → IsDamaged octets → IsErr read
+damaged_refused profile octets (Ok frame) says fecf bad =
+    let front = front_of profile (tm_parts frame) in
+    absurd (damage_shows octets front bad (says.1 ∙ ap (λ (b : Bool). closed b front) fecf))
+damaged_refused profile octets (Err fault) says fecf bad = refl

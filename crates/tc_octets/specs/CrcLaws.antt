@@ -1,6 +1,6 @@
 -- What the check finds. Errors are bits that are laid over the bits of octets.
 use Rattle.std.specs.Prelude.{◌≡◌, ◌≢◌, ◌↔◌, ℕ, ◌+◌, ◌*◌, ◌%◌, ◌^◌, ◌<◌, ◌≤◌, List, [], ◌∷◌, ◌++◌, length, replicate, bit_xor, ⊤}
-use Rattle.tc_octets.specs.Crc.{crc_from, crc_of}
+use Rattle.tc_octets.specs.Crc.{crc_of}
 use Rattle.tc_octets.specs.Bits.{bits_of, pair}
 
 -- one list laid over another of its length
@@ -27,28 +27,23 @@ ones (bit ∷ bits) = bit + ones bits
 abbrev pub wrong_bits : List ℕ → ℕ
 wrong_bits errors = ones (bits_of errors)
 
--- The CRC finds these errors, whatever octets they are laid over. The octets may have their own CRC behind them, and the errors may lie in it.
-abbrev pub IsFound : List ℕ → Type 0
-IsFound errors = (octets : List ℕ) → length octets ≡ length errors → crc_of (laid octets errors) ≢ crc_of octets
+-- Errors that the CRC finds: a burst that begins and ends within 16 bits; an odd number of wrong bits; two wrong bits within 4,095 octets.
+pub data AreFound (errors : List ℕ) : Type 0 where
+  in_burst : (before after : ℕ) (inner : List ℕ) → AllBelow 2 inner → length inner ≤ 16 → number_of_bits inner ≢ 0
+      → bits_of errors ≡ replicate before 0 ++ inner ++ replicate after 0 → AreFound errors
+  odd_bits : wrong_bits errors % 2 ≡ 1 → AreFound errors
+  two_bits : length errors ≤ 4095 → wrong_bits errors ≡ 2 → AreFound errors
 
--- Where two octets stand behind others, the CRC of the whole is 0 just where they are the CRC of the others.
-abbrev pub CrcOfTheWhole : Type 0
-CrcOfTheWhole = (octets : List ℕ) (check : ℕ) → check < 2 ^ 16 → (crc_of (octets ++ pair check) ≡ 0) ↔ (check ≡ crc_of octets)
+-- What the check of octets shows: with such errors laid over them they have another, and with two octets after them they have the check 0 exactly if
+-- these two are theirs.
+pub record Shows (octets : List ℕ) (check : ℕ) : Type 0 where
+  pub found : (errors : List ℕ) → length octets ≡ length errors → AreFound errors → crc_of (laid octets errors) ≢ check
+  pub whole : (last : ℕ) → last < 2 ^ 16 → (crc_of (octets ++ pair last) ≡ 0) ↔ (last ≡ check)
 
--- The CRC of octets with errors laid over them is the CRC of the octets, with that of the errors laid over it, which is read from a register of
--- zeros.
-abbrev pub CrcIsLinear : Type 0
-CrcIsLinear = (octets errors : List ℕ) → length octets ≡ length errors
-    → crc_of (laid octets errors) ≡ bit_xor (crc_of octets) (crc_from 0 (bits_of errors))
-
--- The errors begin and end within 16 bits, and there is one.
-abbrev pub BurstsAreFound : Type 0
-BurstsAreFound = (before after : ℕ) (burst : List ℕ) → AllBelow 2 burst → length burst ≤ 16 → number_of_bits burst ≢ 0
-    → crc_from 0 (replicate before 0 ++ burst ++ replicate after 0) ≢ 0
-
-abbrev pub OddErrorsAreFound : Type 0
-OddErrorsAreFound = (errors : List ℕ) → wrong_bits errors % 2 ≡ 1 → IsFound errors
-
--- two wrong bits within 4,095 octets
-abbrev pub TwoErrorsAreFound : Type 0
-TwoErrorsAreFound = (errors : List ℕ) → length errors ≤ 4095 → wrong_bits errors ≡ 2 → IsFound errors
+-- Octets with their CRC after them, and errors that it finds laid over all of that.
+pub record IsDamaged (octets : List ℕ) : Type 0 where
+  pub inside : List ℕ
+  pub errors : List ℕ
+  pub long : length (inside ++ pair (crc_of inside)) ≡ length errors
+  pub found : AreFound errors
+  pub came : octets ≡ laid (inside ++ pair (crc_of inside)) errors

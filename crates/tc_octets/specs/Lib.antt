@@ -13,4 +13,3 @@ pub mod TmFrames
 pub mod Markers
 pub mod Cltus
 pub mod CltuRuns
-pub mod CltuFrames

@@ -1,10 +1,9 @@
 -- Telemetry frames behind attached sync markers (CCSDS 131.0-B), as they are found in a stream of octets.
 use Rattle.std.specs.Prelude.{◌≡◌, ℕ, zero, suc, ◌+◌, ◌-◌, ◌<◌, ◌==◌, nat_le, nat_lt, if◌then◌else◌, ◌&&◌, ◌||◌, Bool, true, false, List, [], ◌∷◌}
-use Rattle.std.specs.Prelude.{◌++◌, length, take, drop, map, slice_index, ⊤}
-use Rattle.std.specs.List.{flat_map, fold}
+use Rattle.std.specs.Prelude.{◌++◌, length, take, drop, slice_index}
 use Rattle.tc_octets.specs.Bits.{pair_at}
 use Rattle.tc_octets.specs.Crc.{crc_of}
-use Rattle.tc_octets.specs.TmFrames.{IsTmFrame, TmParts, tm_frame_of, tm_scid_in, tm_version_in}
+use Rattle.tc_octets.specs.TmFrames.{tm_scid_in, tm_version_in}
 use Rattle.tc_octets.specs.declared.profiles.Profile.{Profile}
 
 -- the attached sync marker
@@ -90,34 +89,13 @@ pub record IsWaiting (profile : Profile) (octets : List ℕ) : Type 0 where
 
 -- ---- what holds of streams
 
--- what is heard once more octets came
-abbrev pub joined : Profile → Heard → List ℕ → Heard
-joined profile before octets =
-    record { frames = before.frames ++ (heard profile 0 (before.waits ++ octets)).frames; waits = (heard profile 0 (before.waits ++ octets)).waits }
+-- A receiver that has what waits after a stream has, after one octet more, what waits then; and it gives what is heard beside the frames before.
+-- So it hears what is in the stream, however that is cut into pieces.
+pub record GoesOn (old new : Listener) (octet : ℕ) : Type 0 where
+  pub hears : (stream : List ℕ) → old.last.waits ≡ (heard old.profile 0 stream).waits
+      → heard old.profile 0 (stream ++ octet ∷ [])
+      ≡ record { frames = (heard old.profile 0 stream).frames ++ new.last.frames; waits = new.last.waits }
 
--- However a stream is cut into pieces, the same is heard.
-abbrev pub MarkedPiecesDoNotMatter : Type 0
-MarkedPiecesDoNotMatter = (profile : Profile) (first rest : List ℕ) → heard profile 0 (first ++ rest) ≡ joined profile (heard profile 0 first) rest
-
--- A receiver that takes a stream octet by octet hears what is in it.
-abbrev pub OctetsAreHeard : Type 0
-OctetsAreHeard = (profile : Profile) (stream : List ℕ)
-    → fold (λ before octet. joined profile before (octet ∷ [])) (waiting []) stream ≡ heard profile 0 stream
-
-abbrev pub AreTmFrames : Profile → List TmParts → Type 0
-AreTmFrames profile [] = ⊤
-AreTmFrames profile (frame ∷ frames) = IsTmFrame profile frame × AreTmFrames profile frames
-
--- frames, each behind a marker
-abbrev pub marked : Profile → List TmParts → List ℕ
-marked profile frames = flat_map (λ frame. marker ++ tm_frame_of profile frame) frames
-
--- Marked frames are heard, all of them, and nothing waits then.
-abbrev pub MarkedFramesAreHeard : Type 0
-MarkedFramesAreHeard =
-    (profile : Profile) (frames : List TmParts) → AreTmFrames profile frames
-    → heard profile 0 (marked profile frames) ≡ record { frames = map (λ frame. tm_frame_of profile frame) frames; waits = [] }
-
--- Fewer octets wait than a marker and a frame have.
-abbrev pub FewWait : Type 0
-FewWait = (profile : Profile) (stream : List ℕ) → length (heard profile 0 stream).waits < profile.tm.length + 4
+-- Behind a marker these octets are the first frame that is heard, and what comes after them is heard as if it came alone.
+pub record IsHeard (profile : Profile) (octets : List ℕ) : Type 0 where
+  pub first : (rest : List ℕ) → heard profile 0 (marker ++ octets ++ rest) ≡ first_heard octets (heard profile 0 rest)

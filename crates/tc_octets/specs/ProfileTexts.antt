@@ -156,17 +156,12 @@ word_name words.Clash = codes "Clash"
 abbrev pub fault_line : ProfileFault → List ℕ
 fault_line fault = if fault.line == 0 then word_name fault.word else codes "line " ++ decimal fault.line ++ codes ": " ++ word_name fault.word
 
--- ---- what holds of texts
+-- ---- what holds of answers
 
--- a text has one answer
-abbrev pub OneAnswer : Type 0
-OneAnswer = (text : List ℕ) (a b : Result Profile ProfileFault) → ProfileReads text a → ProfileReads text b → a ≡ b
+-- No other answer is right.
+pub record IsOnly (text : List ℕ) (answer : Result Profile ProfileFault) : Type 0 where
+  pub only : (other : Result Profile ProfileFault) → ProfileReads text other → other ≡ answer
 
--- what a reader answers to the text that is printed of a profile is that profile
-abbrev pub ProfilesComeBack : Type 0
-ProfilesComeBack = (profile : Profile) (read : Result Profile ProfileFault) → IsProfile profile → ProfileReads (profile_text profile) read
-    → read ≡ Ok profile
-
--- different profiles have different texts
-abbrev pub ProfileTextsDiffer : Type 0
-ProfileTextsDiffer = (a b : Profile) → IsProfile a → IsProfile b → profile_text a ≡ profile_text b → a ≡ b
+-- The text that is printed of a profile is answered by that profile. So different profiles have different texts.
+pub record ReadsPrinted (text : List ℕ) (answer : Result Profile ProfileFault) : Type 0 where
+  pub printed : (profile : Profile) → IsProfile profile → text ≡ profile_text profile → answer ≡ Ok profile

@@ -148,13 +148,7 @@ Reads profile octets (Err faults.Content) =
     Passes profile octets × ((flags_in octets ≡ 0) ⊎ (flags_in octets ≡ 3)) × ((carried : Carried) → ¬ IsFrameOf profile octets carried)
 Reads profile octets (Err fault) = HeaderSays profile octets (Some fault)
 
--- ---- what holds of frames
-
--- what a reader says of the octets of a frame is that frame
-abbrev pub TcFramesComeBack : Type 0
-TcFramesComeBack = (profile : Profile) (carried : Carried) (read : Result TcFrame TcFault) → IsCarried profile.tc carried
-    → Reads profile (tc_frame_of profile carried) read → IsOkAnd read (λ frame. carried_of frame ≡ carried)
-
--- different frames have different octets
-abbrev pub TcFramesDiffer : Type 0
-TcFramesDiffer = (profile : Profile) (a b : Carried) → tc_frame_of profile a ≡ tc_frame_of profile b → a ≡ b
+-- What octets are read as, if they are a frame: what it carries. So different frames have different octets.
+pub record ReadsBack (profile : Profile) (octets : List ℕ) (read : Result TcFrame TcFault) : Type 0 where
+  pub back : (carried : Carried) → IsCarried profile.tc carried → octets ≡ tc_frame_of profile carried
+      → IsOkAnd read (λ frame. carried_of frame ≡ carried)

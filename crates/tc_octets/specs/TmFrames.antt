@@ -110,14 +110,6 @@ abbrev pub our_word : Profile → Option ℕ → Option ℕ
 our_word profile None = None
 our_word profile (Some word) = if (word / 2 ^ 31 == 0) && (word / 2 ^ 18 % 2 ^ 6 == profile.tc.vcid) then Some word else None
 
--- ---- what holds of frames
-
--- what a reader says of the octets of a frame is that frame
-abbrev pub TmFramesComeBack : Type 0
-TmFramesComeBack = (profile : Profile) (parts : TmParts) (read : Result TmFrame TmFault) → IsTmFrame profile parts
-    → TmReads profile (tm_frame_of profile parts) read → IsOkAnd read (λ frame. tm_parts frame ≡ parts)
-
--- different frames have different octets
-abbrev pub TmFramesDiffer : Type 0
-TmFramesDiffer = (profile : Profile) (a b : TmParts) → IsTmFrame profile a → IsTmFrame profile b → tm_frame_of profile a ≡ tm_frame_of profile b
-    → a ≡ b
+-- What octets are read as, if they are a frame: that frame. So different frames have different octets.
+pub record TmReadsBack (profile : Profile) (octets : List ℕ) (read : Result TmFrame TmFault) : Type 0 where
+  pub back : (parts : TmParts) → IsTmFrame profile parts → octets ≡ tm_frame_of profile parts → IsOkAnd read (λ frame. tm_parts frame ≡ parts)

@@ -30,7 +30,7 @@ impl Model for Candidate {
 }
 
 impl Candidate {
-    /// No octets.
+    /// Returns a candidate without octets.
     pub(crate) fn new() -> Candidate
         ensures { result ≡ [] }
     {
@@ -40,7 +40,7 @@ impl Candidate {
         }
     }
 
-    /// How many octets there are.
+    /// Returns how many octets there are.
     pub fn len(&self) -> usize
         ensures number { result ≡ length self.now }
         ensures bound { length self.now ≤ 1029 }
@@ -48,7 +48,7 @@ impl Candidate {
         self.count
     }
 
-    /// The octets.
+    /// Returns the octets.
     pub fn octets(&self) -> &[u8]
         ensures { result.now ≡ self.now }
     {
@@ -87,8 +87,8 @@ impl Candidate {
         Candidate { octets, count }
     }
 
-    /// The frame at the front of the octets: as many as its frame length field says (CCSDS 232.0-B, 4.1.2.7), with 0 to 6 octets of fill after it.
-    /// `None` where there is none.
+    /// Returns the frame at the front of the octets: as many as its frame length field says (CCSDS 232.0-B, 4.1.2.7), with 0 to 6 octets of fill
+    /// after it. `None` if there is none.
     pub fn frame(&self) -> Option<&[u8]>
         ensures { MatchOption result (¬ HasFrame self.now) (λ frame. IsFrameIn self.now frame.now) }
     {
@@ -122,7 +122,7 @@ impl Model for Waiting {
 }
 
 impl Waiting {
-    /// None.
+    /// Returns a block of which no octet has come.
     pub(crate) fn new() -> Waiting
         ensures { result ≡ [] }
     {
@@ -132,14 +132,14 @@ impl Waiting {
         }
     }
 
-    /// How many have come.
+    /// Returns how many octets have come.
     pub(crate) fn len(&self) -> usize
         ensures { result ≡ length self.now }
     {
         self.count
     }
 
-    /// One more.
+    /// Adds an octet.
     pub(crate) fn add(&mut self, octet: u8)
         requires { length self.old < 8 }
         ensures { self.new ≡ self.old ++ octet ∷ [] }
@@ -148,7 +148,7 @@ impl Waiting {
         self.count += 1;
     }
 
-    /// The block, once all eight have come.
+    /// Returns the block, once all eight have come.
     pub(crate) fn block(&self) -> [u8; 8]
         requires { length self.now ≡ 8 }
         ensures { result ≡ self.now }

@@ -2,6 +2,7 @@
 ghost use Rattle.std.specs.Prelude.{◌≡◌, ◌<◌, ◌≤◌, ◌%◌, [], Some, None, false, length, IfSome};
 ghost use Rattle.std.specs.List.{fold};
 ghost use Rattle.std.specs.Option.{MatchOption};
+ghost use Rattle.tc_octets.specs.CltuRuns.{IdleRestores};
 ghost use Rattle.tc_octets.specs.Cltus.{HasNone, after, codeblock_in, come, found_of, fresh, keeping, kept, searching, still, waits, whole_block, within};
 
 use crate::candidates::{Candidate, MOST_INFORMATION, Waiting};
@@ -14,8 +15,8 @@ const FIRST: u8 = 0xeb;
 /// Its second octet.
 const SECOND: u8 = 0x90;
 
-/// Where a receiver is: it looks for a start sequence, of which the first octet may just have come; or it is within a CLTU. A contract sees it as a
-/// `Place` without information.
+/// The place of a receiver: it looks for a start sequence, of which the first octet may just have come; or it is within a CLTU. A contract sees it as
+/// a `Place` without information.
 #[derive(Drop)]
 struct Spot {
     inside: bool,
@@ -32,7 +33,7 @@ impl Model for Spot {
 }
 
 impl Spot {
-    /// Where a receiver is that has seen nothing.
+    /// Returns the place of a receiver that has seen nothing.
     fn new() -> Spot
         ensures { result ≡ searching false }
     {
@@ -43,7 +44,7 @@ impl Spot {
         }
     }
 
-    /// Where a receiver is after a start sequence or a codeblock.
+    /// Returns the place of a receiver after a start sequence or a codeblock.
     fn within() -> Spot
         ensures { result ≡ within [] [] }
     {
@@ -96,7 +97,7 @@ fn codeblock(information: &Candidate, block: &[u8; 8], mode: Mode) -> Option<[u8
     None
 }
 
-/// Returns where a receiver is that looked for a start sequence from the first octet of a block that failed to its last.
+/// Returns the place of a receiver that looked for a start sequence through all octets of a block that failed.
 #[tactic(auto, using(crate::proofs::CltuLemmas::looked_few))]
 fn looked_through(block: &[u8; 8]) -> Spot
     ensures place { result ≡ fold come (searching false) block.now }
@@ -171,11 +172,12 @@ impl CltuReader {
     }
 
     /// Takes the next octet. If a CLTU ended with it, `information` gives that of its codeblocks until the next octet comes.
-    #[tactic(auto, using(crate::proofs::CltuLemmas::come_keeping, crate::proofs::CltuLemmas::none_come, crate::proofs::CltuLemmas::few_kept), unfolding(crate::specs::Cltus::received))]
+    #[tactic(auto, using(crate::proofs::CltuLemmas::come_keeping, crate::proofs::CltuLemmas::none_come, crate::proofs::CltuLemmas::few_kept, crate::proofs::IdleLemmas::idle_restores), unfolding(crate::specs::Cltus::received))]
     pub fn octet(&mut self, octet: u8)
         ensures taken { self.new ≡ after self.old octet }
         ensures few { waits self.new.last.place < 8 }
         ensures bound { kept self.new.last.place ≤ 1029 }
+        ensures idle { IdleRestores self.new }
     {
         self.information.begin(self.ended);
         self.spot.take(octet);

@@ -7,13 +7,13 @@ use crate::codeblocks::{INFORMATION, error_control};
 use crate::randomizers::randomize;
 use std::alloc::{AllocError, Allocator};
 
-/// What a CLTU begins with (CCSDS 231.0-B).
+/// The start sequence of a CLTU (CCSDS 231.0-B).
 const START: [u8; 2] = [0xeb, 0x90];
 
-/// What a CLTU ends with: no codeblock, in both modes of a decoder.
+/// The tail sequence of a CLTU: no codeblock, in both modes of a decoder.
 const TAIL: [u8; 8] = [0xc5, 0xc5, 0xc5, 0xc5, 0xc5, 0xc5, 0xc5, 0x79];
 
-/// What the last codeblock is filled up with.
+/// The octet that the last codeblock is filled up with.
 const FILL: u8 = 0x55;
 
 /// Adds octets of fill up to a whole number of sevens.
@@ -27,7 +27,7 @@ fn put_fill<A: Allocator + Copy>(out: &mut Vec<u8, A>) -> Result<(), AllocError>
     Ok(())
 }
 
-/// A frame as a CLTU has it: randomized where that is asked for, and filled up.
+/// Returns the octets of a frame for a CLTU: randomized if that is asked for, and filled up.
 fn filled<A: Allocator + Copy>(
     alloc: A,
     randomizer: bool,
@@ -58,8 +58,8 @@ fn put_codeblocks<A: Allocator + Copy>(
     Ok(())
 }
 
-/// The CLTU of a frame (CCSDS 231.0-B): the start sequence, the codeblocks of the frame and its fill, and the tail sequence. Of a frame of up to
-/// 1,024 octets it has up to 1,186. Fails where memory is refused.
+/// Returns the CLTU of a frame (CCSDS 231.0-B): the start sequence, the codeblocks of the frame and its fill, and the tail sequence. Of a frame of up
+/// to 1,024 octets it has up to 1,186. Fails if memory is refused.
 #[tactic(auto, using(crate::proofs::BringLemmas::cltu_brings))]
 pub fn cltu<A: Allocator + Copy>(
     alloc: A,

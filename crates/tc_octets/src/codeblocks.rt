@@ -1,6 +1,7 @@
 //! Codeblocks of the BCH code.
 ghost use Rattle.std.specs.Prelude.{◌≡◌, ◌<◌, ◌^◌};
 ghost use Rattle.tc_octets.specs.Bits.{octet_bits};
+ghost use Rattle.tc_octets.specs.CodeblockLaws.{Tells};
 ghost use Rattle.tc_octets.specs.Codeblocks.{bch_step, bch_from, error_control_of, is_codeblock, sent_of, turned, with_one_turned};
 
 /// How a decoder reads codeblocks (CCSDS 231.0-B).
@@ -21,7 +22,7 @@ pub const INFORMATION: usize = 7;
 /// The generator x^7 + x^6 + x^2 + 1 without its first term.
 const GENERATOR: u8 = 0x45;
 
-/// The register of 7 bits after one more bit.
+/// Returns the register of 7 bits after one more bit.
 #[tactic(auto, using(crate::proofs::BitLemmas::xor_of_7), unfolding(crate::specs::Codeblocks::bch_step))]
 fn with_bit(register: u8, bit: u8) -> u8
     requires { register < 2 ^ 7 }
@@ -36,7 +37,7 @@ fn with_bit(register: u8, bit: u8) -> u8
     }
 }
 
-/// The register of 7 bits after one more octet.
+/// Returns the register of 7 bits after one more octet.
 #[tactic(auto, using(crate::proofs::BitLemmas::bit_folded, crate::proofs::BitLemmas::no_bits_folded), unfolding(crate::specs::Bits::octet_bits))]
 fn with_octet(register: u8, octet: u8) -> u8
     requires { register < 2 ^ 7 }
@@ -50,8 +51,8 @@ fn with_octet(register: u8, octet: u8) -> u8
     after
 }
 
-/// The last octet of the codeblock of 7 octets (CCSDS 231.0-B): the 7 parity bits, which are the remainder by x^7 + x^6 + x^2 + 1 with each bit
-/// turned, and a filler bit 0.
+/// Returns the last octet of the codeblock of 7 octets (CCSDS 231.0-B): the 7 parity bits, which are the remainder by x^7 + x^6 + x^2 + 1 with each
+/// bit turned, and a filler bit 0.
 #[tactic(auto, using(crate::proofs::BitLemmas::octet_folded, crate::proofs::BitLemmas::xor_of_7))]
 pub fn error_control(information: &[u8]) -> u8
     ensures { result ≡ error_control_of information.now }
@@ -63,7 +64,7 @@ pub fn error_control(information: &[u8]) -> u8
     (register ^ 0x7f) * 2
 }
 
-/// Whether these 8 octets are a codeblock.
+/// Returns whether these 8 octets are a codeblock.
 #[tactic(auto, unfolding(crate::specs::Codeblocks::is_codeblock))]
 fn is_whole(block: &[u8; 8]) -> bool
     ensures { result ≡ is_codeblock block.now }
@@ -71,7 +72,7 @@ fn is_whole(block: &[u8; 8]) -> bool
     error_control(&block[..INFORMATION]) == block[INFORMATION]
 }
 
-/// The 8 octets with one of their 64 bits turned.
+/// Returns the 8 octets with one of their 64 bits turned.
 fn with_turned(block: &[u8; 8], place: usize) -> [u8; 8]
     requires { place < 64 }
     ensures { result ≡ turned place block.now }
@@ -81,7 +82,7 @@ fn with_turned(block: &[u8; 8], place: usize) -> [u8; 8]
     other
 }
 
-/// The codeblock that differs in one bit.
+/// Returns the codeblock that differs in one bit.
 #[tactic(auto, using(crate::proofs::CodeblockLemmas::turns, crate::proofs::CodeblockLemmas::passes, crate::proofs::CodeblockLemmas::ends))]
 fn mended(block: &[u8; 8]) -> Option<[u8; 8]>
     ensures { result ≡ with_one_turned 64 block.now }
@@ -95,11 +96,12 @@ fn mended(block: &[u8; 8]) -> Option<[u8; 8]>
     None
 }
 
-/// The codeblock that was sent where these 8 octets came (CCSDS 231.0-B); its first 7 octets are the information. Detecting, `None` unless they are a
-/// codeblock. Correcting, one of the 64 bits may be wrong, the filler bit too.
-#[tactic(auto, unfolding(crate::specs::Codeblocks::sent_of))]
+/// Returns the codeblock that was sent if these 8 octets came (CCSDS 231.0-B); its first 7 octets are the information. Detecting, `None` unless they
+/// are a codeblock. Correcting, one of the 64 bits may be wrong, the filler bit too.
+#[tactic(auto, using(crate::proofs::CodeblockLawLemmas::tells), unfolding(crate::specs::Codeblocks::sent_of))]
 pub fn sent(block: &[u8; 8], mode: Mode) -> Option<[u8; 8]>
-    ensures { result ≡ sent_of mode block.now }
+    ensures value { result ≡ sent_of mode block.now }
+    ensures law { Tells mode block.now result }
 {
     if is_whole(block) {
         return Some(*block);

@@ -9,7 +9,6 @@ mod cltus;
 mod codeblocks;
 mod crcs;
 mod keys;
-pub mod laws;
 mod markers;
 mod profile_lines;
 mod profile_texts;

@@ -1,7 +1,7 @@
 //! The receiver of telemetry frames behind sync markers, a machine of one octet at a time.
 ghost use Rattle.std.specs.Prelude.{◌≡◌, ◌++◌, ◌∷◌, [], ◌+◌, ◌-◌, ◌<◌, ◌≤◌, if◌then◌else◌, length, take, drop};
 ghost use Rattle.std.specs.Option.{MatchOption};
-ghost use Rattle.tc_octets.specs.Markers.{IsWaiting, after, fits, from_marker, heard, heard_in, is_tm_frame, may_begin, silent};
+ghost use Rattle.tc_octets.specs.Markers.{GoesOn, IsWaiting, after, fits, from_marker, heard, heard_in, is_tm_frame, may_begin, silent};
 
 use crate::profiles::Profile;
 use crate::tm_frames::read_tm_frame;
@@ -13,14 +13,14 @@ pub const MARKER: [u8; 4] = [0x1a, 0xcf, 0xfc, 0x1d];
 /// The octets of a marker.
 const MARK: usize = 4;
 
-/// Whether the octet at this place is the marker's, or has not come.
+/// Returns whether the octet at this place is the marker's, or has not come.
 fn fits(octets: &[u8], place: usize, mark: u8) -> bool
     ensures { result ≡ fits octets.now place mark }
 {
     place >= octets.len() || octets[place] == mark
 }
 
-/// Whether a marker begins with the first of these octets, as far as they have come.
+/// Returns whether a marker begins with the first of these octets, as far as they have come.
 #[tactic(auto, unfolding(crate::specs::Markers::may_begin))]
 fn may_begin(octets: &[u8]) -> bool
     ensures { result ≡ may_begin octets.now }
@@ -31,7 +31,7 @@ fn may_begin(octets: &[u8]) -> bool
         && fits(octets, 3, MARKER[3])
 }
 
-/// The first place from this one on where a marker may begin; the end where there is none.
+/// Returns the first place from this one on where a marker may begin; the end if there is none.
 #[tactic(auto, using(crate::proofs::MarkerLemmas::begins_here, crate::proofs::MarkerLemmas::begins_later, crate::proofs::MarkerLemmas::begins_never))]
 fn first_place(octets: &[u8], start: usize) -> usize
     requires { start ≤ length octets.now }
@@ -56,7 +56,7 @@ fn move_down(octets: &mut [u8; 2052], at: usize, end: usize)
     octets.copy_within(at..end, 0);
 }
 
-/// Whether these octets are a frame of this link.
+/// Returns whether these octets are a frame of this link.
 #[tactic(auto, using(crate::proofs::MarkerFrameLemmas::read_is))]
 fn is_frame(profile: &Profile, octets: &[u8]) -> bool
     ensures { result ≡ is_tm_frame profile.now octets.now }
@@ -82,7 +82,7 @@ impl Model for Window {
 }
 
 impl Window {
-    /// None.
+    /// Returns a window without octets.
     fn new() -> Window
         ensures { result ≡ [] }
     {
@@ -92,21 +92,21 @@ impl Window {
         }
     }
 
-    /// How many have come.
+    /// Returns how many octets have come.
     fn len(&self) -> usize
         ensures { result ≡ length self.now }
     {
         self.length
     }
 
-    /// The octets.
+    /// Returns the octets.
     fn octets(&self) -> &[u8]
         ensures { result.now ≡ self.now }
     {
         &self.octets[..self.length]
     }
 
-    /// One more.
+    /// Adds an octet.
     fn add(&mut self, octet: u8)
         requires { length self.old < 2052 }
         ensures { self.new ≡ self.old ++ octet ∷ [] }
@@ -115,7 +115,7 @@ impl Window {
         self.length += 1;
     }
 
-    /// Lets them go, where they are a frame that was given out.
+    /// Lets the octets go if they are a frame that was given out.
     fn begin(&mut self, whole: bool)
         ensures { self.new ≡ (heard_in whole self.old).waits }
     {
@@ -134,7 +134,7 @@ impl Window {
         self.length -= at;
     }
 
-    /// Takes the next octet. Whether it is the last of a frame behind a marker.
+    /// Takes the next octet. Returns whether it is the last of a frame after a marker.
     #[tactic(auto, using(crate::proofs::MarkerLemmas::few_taken, crate::proofs::MarkerLemmas::more_taken, crate::proofs::MarkerLemmas::frame_taken, crate::proofs::MarkerLemmas::fault_taken))]
     fn take(&mut self, profile: &Profile, octet: u8) -> bool
         requires { IsWaiting profile.now self.old }
@@ -159,7 +159,7 @@ impl Window {
     }
 }
 
-/// The receiver of a stream of telemetry frames, each behind an attached sync marker (CCSDS 131.0-B). It is given the octets that come, one after the
+/// The receiver of a stream of telemetry frames, each after an attached sync marker (CCSDS 131.0-B). It is given the octets that come, one after the
 /// other, in whatever pieces. It keeps a marker and a frame at most, and takes no memory. A contract sees its profile and what the last octet
 /// brought.
 #[derive(Drop)]
@@ -182,7 +182,7 @@ impl Model for MarkerReader {
 }
 
 impl MarkerReader {
-    /// A receiver that has seen nothing.
+    /// Returns a receiver that has seen nothing.
     pub fn new(profile: Profile) -> MarkerReader
         ensures { result ≡ silent profile }
     {
@@ -193,15 +193,18 @@ impl MarkerReader {
         }
     }
 
-    /// Takes the next octet. Where it is the last of a frame behind a marker, `frame` gives that frame until the next octet comes.
+    /// Takes the next octet. If it is the last of a frame after a marker, `frame` gives that frame until the next octet comes.
+    #[tactic(auto, using(crate::proofs::MarkerLawLemmas::goes_on, crate::proofs::MarkerLawLemmas::few_after))]
     pub fn octet(&mut self, octet: u8)
-        ensures { self.new ≡ after self.old octet }
+        ensures value { self.new ≡ after self.old octet }
+        ensures stream { GoesOn self.old self.new octet }
+        ensures few { length self.new.last.waits < self.new.profile.tm.length + 4 }
     {
         self.window.begin(self.whole);
         self.whole = self.window.take(&self.profile, octet);
     }
 
-    /// The frame that ended with the last octet. `None` where none did.
+    /// Returns the frame that ended with the last octet. `None` if none did.
     pub fn frame(&self) -> Option<&[u8]>
         ensures { MatchOption result (self.now.last.frames ≡ []) (λ frame. self.now.last.frames ≡ frame.now ∷ []) }
     {

@@ -8,8 +8,8 @@ ghost use Rattle.tc_octets.specs.declared.keys.Key.{Key as SomeKey};
 ghost use Rattle.tc_octets.specs.declared.keys.Key.TheVariants as keys;
 ghost use Rattle.tc_octets.specs.Epochs.{IsEpoch};
 ghost use Rattle.tc_octets.specs.ProfileKeys.{IsNumber, IsYesOrNo, ReadsWord, fine_word, map_word, name_of, spelled, yes_no};
-ghost use Rattle.tc_octets.specs.ProfileTexts.{AreSound, IsFirstFault, ProfileReads, Says, said_of, setting, statement_of, statements, value_given};
-ghost use Rattle.tc_octets.specs.ProfileTexts.{value_in, value_of};
+ghost use Rattle.tc_octets.specs.ProfileTexts.{AreSound, IsFirstFault, IsOnly, ProfileReads, ReadsPrinted, Says, said_of, setting, statement_of};
+ghost use Rattle.tc_octets.specs.ProfileTexts.{statements, value_given, value_in, value_of};
 ghost use Rattle.tc_octets.specs.ProfileParts.{AreValues, HasTc, HasTm, IsNumberIn, value_at};
 
 use crate::keys::{KEYS, Key};
@@ -260,8 +260,8 @@ fn whole(word: ProfileWord) -> ProfileFault
     ProfileFault { line: 0, word }
 }
 
-/// ProfileReads a profile. A key that the text does not give has its default. Returns the first fault if the text has one. Takes no memory.
-pub fn read_profile(text: &[u8]) -> Result<Profile, ProfileFault>
+/// Reads a profile, or names the first fault.
+fn answer_of(text: &[u8]) -> Result<Profile, ProfileFault>
     ensures { ProfileReads text.now result }
 {
     if text.len() > LONGEST_PROFILE {
@@ -275,4 +275,14 @@ pub fn read_profile(text: &[u8]) -> Result<Profile, ProfileFault>
         return Err(whole(ProfileWord::Clash));
     }
     Ok(profile)
+}
+
+/// Reads a profile. A key that the text does not give has its default. Returns the first fault if the text has one. Takes no memory.
+#[tactic(auto, using(crate::proofs::ProfileTextLaws::is_only, crate::proofs::ProfileTextLaws::reads_printed))]
+pub fn read_profile(text: &[u8]) -> Result<Profile, ProfileFault>
+    ensures value { ProfileReads text.now result }
+    ensures only { IsOnly text.now result }
+    ensures printed { ReadsPrinted text.now result }
+{
+    answer_of(text)
 }

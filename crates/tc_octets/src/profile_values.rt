@@ -13,7 +13,7 @@ const BEFORE: u32 = 378_691_200;
 /// The most seconds after 1 January 1970: an epoch is the last second of 2099 at the latest.
 const AFTER: u32 = 4_102_444_799;
 
-/// Whether a word has no plus in front, and no zero that it could lack.
+/// Returns whether a word has neither a leading plus nor a leading zero that it could lack.
 fn is_shortest(word: &[u8]) -> bool
     ensures { IsTrue result ↔ ((slice_index word.now 0 ≢ 43) × (slice_index word.now 0 ≡ 48 → length word.now ≡ 1)) }
 {
@@ -73,14 +73,14 @@ pub(crate) fn epoch(word: &[u8]) -> Option<i64>
     }
 }
 
-/// Whether a word is this one.
+/// Returns whether a word is this one.
 pub(crate) fn is(word: &[u8], name: &str) -> bool
     ensures { IsTrue result ↔ (word.now ≡ name.now) }
 {
     word == name.as_bytes()
 }
 
-/// Whether a word is a number of this range.
+/// Returns whether a word is a number of this range.
 fn is_number(word: &[u8], least: u32, most: u32) -> bool
     ensures { IsTrue result ↔ IsNumber least most word.now }
 {
@@ -90,7 +90,7 @@ fn is_number(word: &[u8], least: u32, most: u32) -> bool
     }
 }
 
-/// Whether a word is the width of a sliding window: an even number.
+/// Returns whether a word is the width of a sliding window: an even number.
 fn is_window(word: &[u8]) -> bool
     ensures { IsTrue result ↔ IsWindow word.now }
 {
@@ -100,14 +100,14 @@ fn is_window(word: &[u8]) -> bool
     }
 }
 
-/// Whether a word is `yes` or `no`.
+/// Returns whether a word is `yes` or `no`.
 fn is_yes_or_no(word: &[u8]) -> bool
     ensures { IsTrue result ↔ IsYesOrNo word.now }
 {
     is(word, "yes") || is(word, "no")
 }
 
-/// Whether a key may have this value.
+/// Returns whether a key may have this value.
 pub(crate) fn is_value(key: Key, value: &[u8]) -> bool
     ensures { IsTrue result ↔ IsValue key value.now }
 {

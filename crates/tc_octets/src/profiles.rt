@@ -78,7 +78,7 @@ impl Profile {
     ghost use Rattle.tc_octets.specs.ProfileTexts.{ProfileReads};
     ghost use Rattle.tc_octets.specs.declared.keys.Key.{Key as SomeKey};
 
-    /// The profile of the defaults, which is the one of the empty text.
+    /// Returns the profile of the defaults, which is the one of the empty text.
     #[tactic(auto, using(crate::proofs::StandardLemmas::standard_spelled, crate::proofs::StandardLemmas::standard_read))]
     pub fn standard() -> Profile
         ensures defaults { (key : SomeKey) → spelled result key ≡ default_of key }

@@ -2,7 +2,7 @@
 ghost use Rattle.std.specs.Prelude.{◌≡◌};
 ghost use Rattle.tc_octets.specs.Randomizer.{window_step, next_octet, randomized};
 
-/// The next bit of the sequence goes in at the end of the last eight, and the first one goes out.
+/// Returns the last eight bits of the sequence, one bit later: the next one goes in at the end, and the first one goes out.
 #[tactic(auto, unfolding(crate::specs::Randomizer::window_step))]
 fn stepped(window: u8) -> u8
     ensures { result ≡ window_step window }
@@ -16,7 +16,7 @@ fn stepped(window: u8) -> u8
     window % 128 * 2 + next % 2
 }
 
-/// The next octet of the sequence.
+/// Returns the next octet of the sequence.
 #[tactic(auto, using(crate::proofs::RandomizerLemmas::more, crate::proofs::RandomizerLemmas::none), unfolding(crate::specs::Randomizer::next_octet))]
 fn next(window: u8) -> u8
     ensures { result ≡ next_octet window }
@@ -29,11 +29,11 @@ fn next(window: u8) -> u8
 }
 
 /// Lays the randomizer's sequence over the octets of a frame, from its first octet on (CCSDS 231.0-B): x^8 + x^6 + x^4 + x^3 + x^2 + x + 1, preset
-/// ones.
-/// Doing it twice undoes it.
-#[tactic(auto, using(crate::proofs::RandomizerLemmas::octet_randomized, crate::proofs::RandomizerLemmas::all_randomized))]
+/// ones. Doing it twice undoes it.
+#[tactic(auto, using(crate::proofs::RandomizerLemmas::octet_randomized, crate::proofs::RandomizerLemmas::all_randomized, crate::proofs::RandomizerLemmas::undone))]
 pub fn randomize(octets: &mut [u8])
-    ensures { octets.new ≡ randomized octets.old }
+    ensures value { octets.new ≡ randomized octets.old }
+    ensures twice { randomized octets.new ≡ octets.old }
 {
     let mut window = 0xff;
     for octet in octets.iter_mut() {

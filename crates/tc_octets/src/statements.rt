@@ -43,7 +43,7 @@ impl<'a> Lines<'a> {
     }
 }
 
-/// Returns where the first LF stands.
+/// Returns the place of the first LF.
 fn first_end(text: &[u8]) -> Option<usize>
     ensures { result ≡ position (λ octet. octet == 10) text.now }
 {
@@ -71,23 +71,23 @@ fn without_cr(line: &[u8]) -> &[u8]
     }
 }
 
-/// What a line says.
+/// The content of a line.
 #[derive(Clone, Copy, Debug)]
 pub(crate) enum Statement<'a> {
     /// Nothing: spaces or a comment.
     Blank,
     /// `name = value`, without the spaces around both.
     Setting {
-        /// What stands before the first equals sign.
+        /// The text before the first equals sign.
         name: &'a [u8],
-        /// What stands after it.
+        /// The text after it.
         value: &'a [u8],
     },
     /// An octet outside space to `~`, or no equals sign.
     Bad,
 }
 
-/// Drops the spaces in front.
+/// Drops the leading spaces.
 #[tactic(auto, using(crate::proofs::LineLemmas::start_step, crate::proofs::LineLemmas::start_stays))]
 fn trim_start(text: &[u8]) -> &[u8]
     ensures { result.now ≡ trimmed_start text.now }
@@ -99,7 +99,7 @@ fn trim_start(text: &[u8]) -> &[u8]
     rest
 }
 
-/// Drops the spaces around a text.
+/// Drops leading and trailing spaces.
 #[tactic(auto, using(crate::proofs::LineLemmas::end_step, crate::proofs::LineLemmas::end_stays))]
 pub(crate) fn trim(text: &[u8]) -> &[u8]
     ensures { result.now ≡ trimmed text.now }
@@ -111,14 +111,14 @@ pub(crate) fn trim(text: &[u8]) -> &[u8]
     rest
 }
 
-/// Whether all octets are from space to `~`.
+/// Returns whether all octets are from space to `~`.
 fn is_plain(line: &[u8]) -> bool
     ensures { result ≡ list_all is_printable line.now }
 {
     line.iter().all(|octet| b' ' <= *octet && *octet <= b'~')
 }
 
-/// Returns where the first equals sign stands.
+/// Returns the place of the first equals sign.
 fn first_equals(words: &[u8]) -> Option<usize>
     ensures { result ≡ position is_equals words.now }
 {

@@ -1,6 +1,7 @@
 //! Telecommand transfer frames.
-ghost use Rattle.std.specs.Prelude.{◌≡◌, ◌++◌, ◌+◌, ◌<◌, IfOk, OnOk, length};
+ghost use Rattle.std.specs.Prelude.{◌≡◌, ◌++◌, ◌+◌, ◌<◌, ◌≤◌, IfOk, OnOk, length};
 ghost use Rattle.tc_octets.specs.Bits.{pair, pair_at};
+ghost use Rattle.tc_octets.specs.Cltus.{IsFrameIn, filled_of, turned_by};
 ghost use Rattle.tc_octets.specs.TcFrames.{IsCarried, carried_of, check_length, closed, data_field, header_of, segment_header, tc_frame_of};
 
 use crate::crcs::crc;
@@ -38,7 +39,7 @@ pub enum TcFrame<'a> {
     },
 }
 
-/// Why octets are no telecommand transfer frame of this link. Where several apply, it is the first of these.
+/// Why octets are no telecommand transfer frame of this link. If several apply, it is the first of these.
 #[derive(Clone, Copy, Debug, PartialEq, Eq)]
 pub enum TcFault {
     /// Fewer octets than a frame has, or more, or the frame length field is not their number less 1.
@@ -57,7 +58,7 @@ pub enum TcFault {
     Content,
 }
 
-/// The octets of the frame error control field.
+/// Returns the octets of the frame error control field.
 pub(crate) fn check_octets(fecf: bool) -> usize
     ensures { result ≡ check_length fecf }
 {
@@ -76,7 +77,7 @@ pub(crate) fn put_pair<A: Allocator + Copy>(
     Ok(())
 }
 
-/// The number that two octets are.
+/// Returns the number that two octets are.
 pub(crate) fn pair_in(octets: &[u8], at: usize) -> u16
     requires { at + 1 < length octets.now }
     ensures { result ≡ pair_at octets.now at }
@@ -84,7 +85,7 @@ pub(crate) fn pair_in(octets: &[u8], at: usize) -> u16
     u16::from(octets[at]) * 256 + u16::from(octets[at + 1])
 }
 
-/// Adds the segment header of an unsegmented packet, where frames have one.
+/// Adds the segment header of an unsegmented packet, if frames have one.
 fn put_segment_header<A: Allocator + Copy>(
     out: &mut Vec<u8, A>,
     channel: &TcChannel,
@@ -126,7 +127,7 @@ fn put_data<A: Allocator + Copy>(
     }
 }
 
-/// How many octets a frame's data field has.
+/// Returns how many octets a frame's data field has.
 fn data_octets(channel: &TcChannel, frame: &TcFrame) -> usize
     requires { IsCarried channel.now (carried_of frame.now) }
     ensures { result ≡ length (data_field channel.now (carried_of frame.now)) }
@@ -162,7 +163,7 @@ fn put_header<A: Allocator + Copy>(
     Ok(())
 }
 
-/// Adds the frame error control field of the octets before it, where frames have one.
+/// Adds the frame error control field of the octets before it, if frames have one.
 pub(crate) fn put_check<A: Allocator + Copy>(
     out: &mut Vec<u8, A>,
     fecf: bool,
@@ -176,8 +177,8 @@ pub(crate) fn put_check<A: Allocator + Copy>(
     put_pair(out, check)
 }
 
-/// The octets of a frame (CCSDS 232.0-B, 4.1), at most 1,024. A packet has at least one octet. Fails where memory is refused.
-pub fn tc_frame<A: Allocator + Copy>(
+/// Returns the octets of a frame.
+fn frame_octets<A: Allocator + Copy>(
     alloc: A,
     profile: &Profile,
     frame: &TcFrame,
@@ -189,5 +190,24 @@ pub fn tc_frame<A: Allocator + Copy>(
     put_header(&mut octets, profile, frame)?;
     put_data(&mut octets, &profile.tc, frame)?;
     put_check(&mut octets, profile.tc.fecf)?;
+    Ok(octets)
+}
+
+/// Returns the octets of a frame (CCSDS 232.0-B, 4.1), at most 1,024. A packet has at least one octet. Fails if memory is refused.
+///
+/// The frame stands at the front of the information that its CLTU brings, once the randomizer is undone: the clause `front`.
+#[tactic(auto, using(crate::proofs::BringLemmas::short_there))]
+pub fn tc_frame<A: Allocator + Copy>(
+    alloc: A,
+    profile: &Profile,
+    frame: &TcFrame,
+) -> Result<Vec<u8, A>, AllocError>
+    requires { IsCarried profile.now.tc (carried_of frame.now) }
+    ensures value { IfOk result (λ octets. octets.items ≡ tc_frame_of profile.now (carried_of frame.now)) }
+    ensures short { IfOk result (λ octets. length octets.items ≤ 1024) }
+    ensures front { IfOk result (λ octets. IsFrameIn (turned_by profile.now.tc.randomizer (filled_of profile.now.tc.randomizer octets.items))
+        octets.items) }
+{
+    let octets = frame_octets(alloc, profile, frame)?;
     Ok(octets)
 }

@@ -1,14 +1,15 @@
-//! What telecommand transfer frames say.
-ghost use Rattle.std.specs.Prelude.{◌≡◌, ◌≤◌, ◌+◌, ◌-◌, ◌++◌, ◌↔◌, ℕ, List, IsTrue, length, slice_range};
+//! The reader of telecommand transfer frames.
+ghost use Rattle.std.specs.Prelude.{◌≡◌, ◌≤◌, ◌+◌, ◌-◌, ◌++◌, ◌↔◌, ℕ, List, IsErr, IsTrue, length, slice_range, true};
 ghost use Rattle.std.specs.Option.{MatchOption};
-ghost use Rattle.tc_octets.specs.TcFrames.{segment_header, IsLong, IsChecked, Passes, check_length, HeaderSays, ReadsField, Reads};
+ghost use Rattle.tc_octets.specs.CrcLaws.{IsDamaged};
+ghost use Rattle.tc_octets.specs.TcFrames.{segment_header, IsLong, IsChecked, Passes, check_length, HeaderSays, ReadsBack, ReadsField, Reads};
 ghost use Rattle.tc_octets.specs.declared.profiles.TcChannel.{TcChannel as SomeChannel};
 
 use crate::crcs::crc;
 use crate::profiles::{Profile, TcChannel};
 use crate::tc_frames::{MOST_TC_FRAME, TcFault, TcFrame, UNSEGMENTED, check_octets, pair_in};
 
-/// Whether there are as many octets as a frame may have, and as its length field says.
+/// Returns whether there are as many octets as a frame may have, and as its length field says.
 fn is_long(profile: &Profile, octets: &[u8]) -> bool
     ensures { IsTrue result ↔ IsLong profile.now octets.now }
 {
@@ -17,7 +18,7 @@ fn is_long(profile: &Profile, octets: &[u8]) -> bool
         && usize::from(pair_in(octets, 2) % 0x400) + 1 == octets.len()
 }
 
-/// Whether the frame error control field is right.
+/// Returns whether the frame error control field is right.
 fn is_checked(profile: &Profile, octets: &[u8]) -> bool
     requires { 6 + check_length profile.now.tc.fecf ≤ length octets.now }
     ensures { IsTrue result ↔ IsChecked profile.now octets.now }
@@ -29,7 +30,7 @@ fn is_checked(profile: &Profile, octets: &[u8]) -> bool
     pair_in(octets, end) == crc(&octets[..end])
 }
 
-/// What a frame's header is refused for.
+/// Returns the first fault of a frame's header.
 fn header_fault(profile: &Profile, octets: &[u8]) -> Option<TcFault>
     ensures { HeaderSays profile.now octets.now result }
 {
@@ -52,7 +53,7 @@ fn header_fault(profile: &Profile, octets: &[u8]) -> Option<TcFault>
     None
 }
 
-/// The packet in the data field of a type-AD frame: what stands after the segment header, where there is one.
+/// Returns the packet in the data field of a type-AD frame: all after the segment header, if there is one.
 fn packet_in<'a>(channel: &TcChannel, field: &'a [u8]) -> Option<&'a [u8]>
     ensures { MatchOption result ((packet : List ℕ) → ¬ (field.now ≡ segment_header channel.now.map ++ packet))
         (λ packet. field.now ≡ segment_header channel.now.map ++ packet.now) }
@@ -66,7 +67,7 @@ fn packet_in<'a>(channel: &TcChannel, field: &'a [u8]) -> Option<&'a [u8]>
     }
 }
 
-/// What the data field of a type-AD frame carries.
+/// Reads the data field of a type-AD frame.
 #[tactic(auto, using(crate::proofs::TcFrameLemmas::ad_without, crate::proofs::TcFrameLemmas::ad_empty))]
 fn ad_in<'a>(channel: &TcChannel, ns: u8, field: &'a [u8]) -> Result<TcFrame<'a>, TcFault>
     ensures { ReadsField channel.now 0 ns field.now result }
@@ -82,7 +83,7 @@ fn ad_in<'a>(channel: &TcChannel, ns: u8, field: &'a [u8]) -> Result<TcFrame<'a>
     }
 }
 
-/// What the data field of a type-BC frame carries.
+/// Reads the data field of a type-BC frame.
 #[tactic(auto, using(crate::proofs::TcFrameLemmas::control_numbered, crate::proofs::TcFrameLemmas::control_without))]
 fn control_in<'a>(ns: u8, field: &'a [u8]) -> Result<TcFrame<'a>, TcFault>
     ensures { (channel : SomeChannel) → ReadsField channel 3 ns field.now result }
@@ -97,7 +98,7 @@ fn control_in<'a>(ns: u8, field: &'a [u8]) -> Result<TcFrame<'a>, TcFault>
     }
 }
 
-/// The transfer frame data field.
+/// Returns the transfer frame data field.
 fn field_in<'a>(profile: &Profile, octets: &'a [u8]) -> &'a [u8]
     requires { 6 + check_length profile.now.tc.fecf ≤ length octets.now }
     ensures { result.now ≡ slice_range octets.now 5 (length octets.now - check_length profile.now.tc.fecf) }
@@ -106,7 +107,7 @@ fn field_in<'a>(profile: &Profile, octets: &'a [u8]) -> &'a [u8]
     &octets[5..end]
 }
 
-/// What a frame carries, where nothing is said against its header.
+/// Reads a frame whose header passes.
 fn carried_in<'a>(profile: &Profile, octets: &'a [u8]) -> Result<TcFrame<'a>, TcFault>
     requires { Passes profile.now octets.now }
     ensures { Reads profile.now octets.now result }
@@ -123,9 +124,13 @@ fn carried_in<'a>(profile: &Profile, octets: &'a [u8]) -> Result<TcFrame<'a>, Tc
     Err(TcFault::Kind)
 }
 
-/// The frame that these octets are (CCSDS 232.0-B, 4.1): all of them, no more and no fewer. Else the first fault that applies. Takes no memory.
+/// Reads the frame that these octets are (CCSDS 232.0-B, 4.1): all of them, no more and no fewer. Else returns the first fault that applies. Takes no
+/// memory.
+#[tactic(auto, using(crate::proofs::TcFrameLaws::reads_back, crate::proofs::TcFrameLaws::damaged_refused))]
 pub fn read_tc_frame<'a>(profile: &Profile, octets: &'a [u8]) -> Result<TcFrame<'a>, TcFault>
-    ensures { Reads profile.now octets.now result }
+    ensures value { Reads profile.now octets.now result }
+    ensures back { ReadsBack profile.now octets.now result }
+    ensures damaged { profile.now.tc.fecf ≡ true → IsDamaged octets.now → IsErr result }
 {
     match header_fault(profile, octets) {
         Some(fault) => Err(fault),

@@ -1,7 +1,9 @@
 //! Telemetry transfer frames.
-ghost use Rattle.std.specs.Prelude.{◌≡◌, ◌++◌, ◌+◌, ◌*◌, ◌^◌, ◌<◌, ◌≤◌, ◌↔◌, IfOk, OnOk, IsTrue, length};
+ghost use Rattle.std.specs.Prelude.{◌≡◌, ◌++◌, ◌+◌, ◌*◌, ◌^◌, ◌<◌, ◌≤◌, ◌↔◌, IfOk, OnOk, IsErr, IsTrue, length, true};
+ghost use Rattle.tc_octets.specs.CrcLaws.{IsDamaged};
+ghost use Rattle.tc_octets.specs.Markers.{IsHeard};
 ghost use Rattle.tc_octets.specs.TmFrames.{IsTmChecked, IsTmFrame, TmPartsIn, TmReads, TmSays, four, our_word, tm_frame_of, tm_header_of, tm_parts};
-ghost use Rattle.tc_octets.specs.TmFrames.{word_at, word_flag, word_octets};
+ghost use Rattle.tc_octets.specs.TmFrames.{TmReadsBack, word_at, word_flag, word_octets};
 
 use crate::crcs::crc;
 use crate::profiles::Profile;
@@ -27,11 +29,11 @@ pub struct TmFrame<'a> {
     pub status: u16,
     /// The transfer frame data field.
     pub data: &'a [u8],
-    /// The operational control field, where the frame has one.
+    /// The operational control field, if the frame has one.
     pub word: Option<u32>,
 }
 
-/// Why octets are no telemetry transfer frame of this spacecraft. Where several apply, it is the first of these.
+/// Why octets are no telemetry transfer frame of this spacecraft. If several apply, it is the first of these.
 #[derive(Clone, Copy, Debug, PartialEq, Eq)]
 pub enum TmFault {
     /// Another number of octets than each frame of this link has.
@@ -70,7 +72,7 @@ fn put_header<A: Allocator + Copy>(
     put_pair(out, frame.status)
 }
 
-/// The operational control field flag.
+/// Returns the operational control field flag.
 fn flag_of(word: Option<u32>) -> u16
     ensures { result ≡ word_flag word }
 {
@@ -80,7 +82,7 @@ fn flag_of(word: Option<u32>) -> u16
     }
 }
 
-/// Adds the operational control field, where the frame has one.
+/// Adds the operational control field, if the frame has one.
 fn put_word<A: Allocator + Copy>(out: &mut Vec<u8, A>, word: Option<u32>) -> Result<(), AllocError>
     ensures { OnOk result (out.new.items ≡ out.old.items ++ word_octets word) }
 {
@@ -90,8 +92,8 @@ fn put_word<A: Allocator + Copy>(out: &mut Vec<u8, A>, word: Option<u32>) -> Res
     }
 }
 
-/// The octets of a frame (CCSDS 132.0-B, 4.1), as many as each frame of this link has: the data field fills it. Fails where memory is refused.
-pub fn tm_frame<A: Allocator + Copy>(
+/// Returns the octets of a frame.
+fn frame_octets<A: Allocator + Copy>(
     alloc: A,
     profile: &Profile,
     frame: &TmFrame,
@@ -107,7 +109,23 @@ pub fn tm_frame<A: Allocator + Copy>(
     Ok(octets)
 }
 
-/// Whether the frame error control field is right.
+/// Returns the octets of a frame (CCSDS 132.0-B, 4.1), as many as each frame of this link has: the data field fills it. Fails if memory is refused.
+///
+/// After a marker in a stream the frame is heard first, whatever comes after it: the clause `heard`.
+pub fn tm_frame<A: Allocator + Copy>(
+    alloc: A,
+    profile: &Profile,
+    frame: &TmFrame,
+) -> Result<Vec<u8, A>, AllocError>
+    requires { IsTmFrame profile.now (tm_parts frame.now) }
+    ensures value { IfOk result (λ octets. octets.items ≡ tm_frame_of profile.now (tm_parts frame.now)) }
+    ensures heard { IfOk result (λ octets. IsHeard profile.now octets.items) }
+{
+    let octets = frame_octets(alloc, profile, frame)?;
+    Ok(octets)
+}
+
+/// Returns whether the frame error control field is right.
 fn is_checked(profile: &Profile, octets: &[u8]) -> bool
     requires { 2 ≤ length octets.now }
     ensures { IsTrue result ↔ IsTmChecked profile.now octets.now }
@@ -119,7 +137,7 @@ fn is_checked(profile: &Profile, octets: &[u8]) -> bool
     pair_in(octets, end) == crc(&octets[..end])
 }
 
-/// What a frame is refused for.
+/// Returns the first fault of a frame.
 fn fault(profile: &Profile, octets: &[u8]) -> Option<TmFault>
     ensures { TmSays profile.now octets.now result }
 {
@@ -139,7 +157,7 @@ fn fault(profile: &Profile, octets: &[u8]) -> Option<TmFault>
     None
 }
 
-/// The operational control field at this place, where the flag is not 0.
+/// Returns the operational control field at this place, if the flag is not 0.
 fn word_in(octets: &[u8], flag: u16, at: usize) -> Option<u32>
     requires { at + flag * 4 ≤ length octets.now }
     ensures { result ≡ word_at octets.now flag at }
@@ -152,7 +170,7 @@ fn word_in(octets: &[u8], flag: u16, at: usize) -> Option<u32>
     Some(first * 0x1_0000 + second)
 }
 
-/// The parts of a frame that nothing is said against.
+/// Returns the parts of a frame that passes.
 fn parts_in<'a>(profile: &Profile, octets: &'a [u8]) -> TmFrame<'a>
     requires { 32 ≤ length octets.now }
     ensures { TmPartsIn profile.now octets.now (tm_parts result) }
@@ -170,9 +188,13 @@ fn parts_in<'a>(profile: &Profile, octets: &'a [u8]) -> TmFrame<'a>
     }
 }
 
-/// The frame that these octets are (CCSDS 132.0-B, 4.1): all of them, no more and no fewer. Else the first fault that applies. Takes no memory.
+/// Reads the frame that these octets are (CCSDS 132.0-B, 4.1): all of them, no more and no fewer. Else returns the first fault that applies. Takes no
+/// memory.
+#[tactic(auto, using(crate::proofs::TmFrameLaws::reads_back, crate::proofs::TmFrameLaws::damaged_refused))]
 pub fn read_tm_frame<'a>(profile: &Profile, octets: &'a [u8]) -> Result<TmFrame<'a>, TmFault>
-    ensures { TmReads profile.now octets.now result }
+    ensures value { TmReads profile.now octets.now result }
+    ensures back { TmReadsBack profile.now octets.now result }
+    ensures damaged { profile.now.tm.fecf ≡ true → IsDamaged octets.now → IsErr result }
 {
     match fault(profile, octets) {
         Some(fault) => Err(fault),
@@ -180,7 +202,7 @@ pub fn read_tm_frame<'a>(profile: &Profile, octets: &'a [u8]) -> Result<TmFrame<
     }
 }
 
-/// The control word of our telecommand channel that a frame has (CCSDS 232.0-B, 4.2), of whatever virtual channel the frame is. `None` where the
+/// Returns the control word of our telecommand channel that a frame has (CCSDS 232.0-B, 4.2), of whatever virtual channel the frame is. `None` if the
 /// frame has none, or the word is of another type or another virtual channel: such a word is passed over.
 pub fn word_of(profile: &Profile, frame: &TmFrame) -> Option<u32>
     ensures { result ≡ our_word profile.now frame.now.word }

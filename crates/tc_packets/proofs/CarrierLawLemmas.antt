@@ -11,11 +11,10 @@ use Rattle.tc_octets.specs.TmFrames.{TmParts}
 use Rattle.tc_octets.specs.declared.profiles.Profile.{Profile}
 use Rattle.tc_packets.specs.Carriers.{carrying, data_length, fill_of, filled, frames_of, idle_frame, idle_length, pointer_in, starts}
 use Rattle.tc_packets.specs.SpacePackets.{idle_packet_of}
-use Rattle.tc_packets.specs.CarrierLaws.{Awaits, ComesBack, IsPacket, PacketsComeBack, PartsStayShort, ReportsComeBack, is_idle, reports_in, run}
+use Rattle.tc_packets.specs.CarrierLaws.{Awaits, ComesBack, IsPacket, is_idle, reports_in, run}
 use Rattle.tc_packets.specs.Receivers.{Received, Receiver, and_then, counted, dropped, gap, is_next, looked_at, marked, packet, quiet, received}
 use Rattle.tc_packets.specs.Receivers.{received_to}
 use Rattle.tc_packets.specs.declared.tm_senders.TmSender.{TmSender}
-use Rattle.tc_packets.proofs.ReceiverLemmas.{received_small}
 use Rattle.tc_packets.proofs.SenderLemmas.{concat_append, data_bounds}
 use Rattle.tc_packets.proofs.CutLemmas.{IsStanding, Standing, between, looked_idle, packet_some, pending, pending_none, standing_between}
 use Rattle.tc_packets.proofs.TurnLemmas.{Turns, turns}
@@ -331,7 +330,9 @@ idle_comes profile sender word receiver awaits =
       };
     }
 
-pub packets_come_back : PacketsComeBack
+-- A list of packets that is sent comes back, from a receiver that awaits its first frame.
+pub packets_come_back : (profile : Profile) (sender : TmSender) (word : ℕ) (packets : List (List ℕ)) (receiver : Receiver)
+    → AllByRecursion IsPacket packets → Awaits receiver (sender.channel_count % 2 ^ 8) → ComesBack profile sender word packets receiver
 packets_come_back profile sender word [] receiver all awaits = idle_comes profile sender word receiver awaits
 packets_come_back profile sender word (first ∷ packets) receiver all awaits = come_filled profile sender word first packets receiver all awaits
 
@@ -351,7 +352,9 @@ fill_idle size octets =
     (λ (l : List (List ℕ)). reports_in (map packet l) ≡ [])
     (λ e. refl) (λ e. refl)
 
-pub reports_come_back : ReportsComeBack
+pub reports_come_back : (profile : Profile) (sender : TmSender) (word : ℕ) (packets : List (List ℕ)) (receiver : Receiver)
+    → AllByRecursion IsPacket packets → AllByRecursion (λ octets. is_idle octets ≡ false) packets → Awaits receiver (sender.channel_count % 2 ^ 8)
+    → reports_in (run receiver (frames_of profile sender word packets)).given ≡ packets
 reports_come_back profile sender word packets receiver all none awaits =
     let size : ℕ = data_length profile in
     let back = packets_come_back profile sender word packets receiver all awaits in
@@ -359,12 +362,3 @@ reports_come_back profile sender word packets receiver all none awaits =
     ∙ reports_first packets (fill_of size (length (concat packets))) none
     ∙ ap (λ l. packets ++ l) (fill_idle size (length (concat packets)))
     ∙ append-nil packets
-
-pub parts_short : PartsStayShort
-parts_short = record {
-  stays = received_small;
-  bound = λ part small h.
-      let high = small 4 in
-      let low = small 5 in
-      omega arith;
-}

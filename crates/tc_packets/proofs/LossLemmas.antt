@@ -10,7 +10,7 @@ use Rattle.tc_octets.specs.TmFrames.{TmParts}
 use Rattle.tc_octets.specs.declared.profiles.Profile.{Profile}
 use Rattle.tc_packets.specs.Carriers.{carrying, data_length, filled, frames_of, idle_frame, pointer_in, starts}
 use Rattle.tc_packets.specs.CarrierLaws.{IsPacket, run}
-use Rattle.tc_packets.specs.LossLaws.{Behind, FewLost, LossesShow, WholePacketsCome, at_rest, kept, lost_after, missing, packets_in, that_came}
+use Rattle.tc_packets.specs.LossLaws.{Behind, FewLost, ComesOver, LossesShow, at_rest, kept, lost_after, missing, packets_in, that_came}
 use Rattle.tc_packets.specs.Receivers.{Given, Received, Receiver, and_then, counted, cut, dropped, gap, is_next, looked_at, marked, packet, quiet}
 use Rattle.tc_packets.specs.Receivers.{received, received_to, skipped}
 use Rattle.tc_packets.specs.declared.tm_senders.TmSender.{TmSender}
@@ -18,7 +18,7 @@ use Rattle.tc_packets.proofs.CameLemmas.{chosen, chosen_all, chosen_none, expect
 use Rattle.tc_packets.proofs.SenderLemmas.{data_bounds}
 use Rattle.tc_packets.proofs.CutLemmas.{Standing, between, expect, looked_idle}
 use Rattle.tc_packets.proofs.TurnLemmas.{Turns}
-use Rattle.tc_packets.proofs.CarrierLawLemmas.{Stands, fill_none, fills, none_left, stands_first, stands_on, turn_at}
+use Rattle.tc_packets.proofs.CarrierLawLemmas.{Stands, fill_none, fills, none_left, packets_come_back, reports_come_back, stands_first, stands_on, turn_at}
 
 -- ---- the packets among what was given
 
@@ -328,9 +328,18 @@ losses_idle profile sender word receiver lost false behind few =
           (lost_one receiver sender.channel_count lost false [] [] (before_of receiver sender.channel_count lost behind));
     }
 
-pub whole_packets_come : WholePacketsCome
+whole_packets_come : (profile : Profile) (sender : TmSender) (word : ℕ) (packets : List (List ℕ)) (receiver : Receiver) (lost : ℕ) (came : List Bool)
+    → AllByRecursion IsPacket packets → Behind receiver sender.channel_count lost → length came ≡ length (frames_of profile sender word packets)
+    → FewLost lost came → LossesShow profile sender word packets receiver lost came
 whole_packets_come profile sender word [] receiver lost [] all behind long few = absurd (omega arith)
 whole_packets_come profile sender word [] receiver lost (b ∷ []) all behind long few = losses_idle profile sender word receiver lost b behind few
 whole_packets_come profile sender word [] receiver lost (b ∷ c ∷ more) all behind long few = absurd (omega arith)
 whole_packets_come profile sender word (first ∷ packets) receiver lost came all behind long few =
     losses_filled profile sender word first packets receiver lost came all behind long few
+
+pub comes_over : (profile : Profile) (sender : TmSender) (word : ℕ) (packets : List (List ℕ)) → ComesOver profile sender word packets
+comes_over profile sender word packets = record {
+  whole = λ receiver all awaits. packets_come_back profile sender word packets receiver all awaits;
+  reports = λ receiver all none awaits. reports_come_back profile sender word packets receiver all none awaits;
+  losses = λ receiver lost came all behind long few. whole_packets_come profile sender word packets receiver lost came all behind long few;
+}

@@ -8,7 +8,7 @@ use Rattle.std.proofs.lemmas.List.{append-nil, drop-drop, drop_all, length-drop,
 use Rattle.tc_octets.specs.TmFrames.{TmParts}
 use Rattle.tc_packets.specs.declared.packet_readers.Item.{Item}
 use Rattle.tc_packets.specs.declared.packet_readers.Item.TheVariants as item
-use Rattle.tc_packets.specs.Receivers.{IsPart, Received, Receiver, and_then, begun, carried, continued, counted, cut, dropped, ended, from_start}
+use Rattle.tc_packets.specs.Receivers.{IsPart, IsShortPart, Received, Receiver, and_then, begun, carried, continued, counted, cut, dropped, ended, from_start}
 use Rattle.tc_packets.specs.Receivers.{given_of, gap, is_next, is_skipped, looked_at, marked, packet, quiet, received, skipped}
 use Rattle.tc_packets.specs.SpacePackets.{whole_length_in}
 
@@ -206,3 +206,12 @@ unfolding received
 received_small receiver frame h =
     looked_small frame.status frame.content (counted receiver.expected frame.channel_count receiver.part).part
     (counted_small receiver.expected frame.channel_count receiver.part h)
+
+pub short_part : (part : List ℕ) → IsPart part → IsShortPart part
+short_part part h = record {
+  less = h;
+  most = λ small.
+      let high = small 4 in
+      let low = small 5 in
+      omega arith;
+}

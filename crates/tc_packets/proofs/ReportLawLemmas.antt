@@ -6,19 +6,18 @@ use Rattle.tc_types.specs.LinkLines.{verification_subtype}
 use Rattle.tc_types.specs.declared.requests.Identity.{Identity}
 use Rattle.tc_types.specs.declared.link.reports.Verification.{Verification}
 use Rattle.tc_types.specs.declared.link.reports.Verification.TheVariants as verification
-use Rattle.tc_octets.specs.Bits.{bits_of, pair, pair_at}
+use Rattle.tc_octets.specs.Bits.{pair, pair_at}
 use Rattle.tc_octets.specs.Crc.{crc_of}
-use Rattle.tc_octets.specs.CrcLaws.{CrcOfTheWhole}
 use Rattle.tc_octets.specs.declared.profiles.Profile.{Profile}
-use Rattle.tc_octets.proofs.CrcLawLemmas.{from_small}
+use Rattle.tc_octets.proofs.CrcWholeLemmas.{closed_zero}
 use Rattle.tc_packets.specs.SpacePackets.{ReadsPacket, flag_bit, header_of, identification, sequence_bits, sequence_control, space_packet_of}
 use Rattle.tc_packets.specs.SpacePackets.{type_bit}
 use Rattle.tc_packets.specs.Times.{IsTime, time_length, time_of}
 use Rattle.tc_packets.specs.Reports.{IsReportable, report_field, report_header, report_of, service_of, source_data, subtype_of}
 use Rattle.tc_packets.specs.ReportReaders.{HandsOn, HasRoom, IsKnown, IsOurs, Judges, destination_in, pus_version_in, service_in}
 use Rattle.tc_packets.specs.SpacePackets.{IsHeader}
-use Rattle.tc_packets.specs.ReportReaders.{source_data_in, subtype_in, Tells}
-use Rattle.tc_packets.specs.ReportLaws.{ReportsComeBack, ReportsDiffer, Sent, heard_of}
+use Rattle.tc_packets.specs.ReportReaders.{ReadsReport, source_data_in, subtype_in, Tells}
+use Rattle.tc_packets.specs.ReportLaws.{CanBeSent, Sent, heard_of, octets_of}
 use Rattle.tc_packets.specs.declared.space_packets.PacketType.{PacketType}
 use Rattle.tc_packets.specs.declared.space_packets.PacketType.TheVariants as types
 use Rattle.tc_packets.specs.declared.space_packets.SequenceFlags.{SequenceFlags}
@@ -185,9 +184,6 @@ ours_there profile now t field is =
     let service : IsKnown (service_in field) (subtype_of t) = subst (λ (n : ℕ). IsKnown n (subtype_of t)) (sym is.service) (known_there t) in
     record { destination = is.destination; known = subst (λ (n : ℕ). IsKnown (service_in field) n) (sym is.subtype) service }
 
-crc_zero : CrcOfTheWhole → (octets : List ℕ) → crc_of (octets ++ pair (crc_of octets)) ≡ 0
-crc_zero law octets = (law octets (crc_of octets) (from_small 65535 (bits_of octets) (omega arith))).1 refl
-
 -- ---- what a reader says of a report
 
 pub heard_same : (a b : HeardReport) → a.origin ≡ b.origin → a.told ≡ b.told → a.passed ≡ b.passed → a ≡ b
@@ -196,15 +192,15 @@ heard_same a b origin contents passed =
     ∙ ap (λ (x : Told). let h : HeardReport = record { origin = b.origin; told = x; passed = a.passed } in h) contents
     ∙ ap (λ (x : ℕ). let h : HeardReport = record { origin = b.origin; told = b.told; passed = x } in h) passed
 
-judged : (profile : Profile) (count now : ℕ) (t : Told) (header : PacketHeader) (field : List ℕ) (read : Result Heard ReportFault) → CrcOfTheWhole
+judged : (profile : Profile) (count now : ℕ) (t : Told) (header : PacketHeader) (field : List ℕ) (read : Result Heard ReportFault)
     → profile.apid ≤ 2046
     → IsReportable profile t → ReportIs profile count now t header field → FieldIs profile now t field
     → Judges profile (report_of profile count now t) header field read
     → read ≡ Ok (heard.Report (heard_of profile (record { count = count; time = now; contents = t })))
-judged profile count now t header field (Ok heard.Idle) law fits reported is parts says = absurd (omega (arith, is.apid, says))
-judged profile count now t header field (Ok (heard.Other service subtype)) law fits reported is parts says =
+judged profile count now t header field (Ok heard.Idle) fits reported is parts says = absurd (omega (arith, is.apid, says))
+judged profile count now t header field (Ok (heard.Other service subtype)) fits reported is parts says =
     absurd (says.1 (ours_there profile now t field parts))
-judged profile count now t header field (Ok (heard.Report report)) law fits reported is parts says =
+judged profile count now t header field (Ok (heard.Report report)) fits reported is parts says =
     let tells = says.2 in
     let origin =
     identity_same report.origin (record { apid = profile.apid; count = count }) (ap (λ (i : Identity). i.apid) tells.0 ∙ is.apid)
@@ -214,40 +210,42 @@ judged profile count now t header field (Ok (heard.Report report)) law fits repo
     (subst (λ (l : List ℕ). Tells profile l t 0) (sym parts.content) (tells_itself profile t reported)) in
     ap (λ (h : HeardReport). let r : Result Heard ReportFault = Ok (heard.Report h) in r)
     (heard_same report (heard_of profile (record { count = count; time = now; contents = t })) origin same.told same.passed)
-judged profile count now t header field (Err faults.Length) law fits reported is parts says = absurd (says.2 parts.room)
-judged profile count now t header field (Err faults.Version) law fits reported is parts says = absurd says
-judged profile count now t header field (Err faults.Header) law fits reported is parts (inl says) =
+judged profile count now t header field (Err faults.Length) fits reported is parts says = absurd (says.2 parts.room)
+judged profile count now t header field (Err faults.Version) fits reported is parts says = absurd says
+judged profile count now t header field (Err faults.Header) fits reported is parts (inl says) =
     absurd (says.1 (record { kind = is.kind; secondary = is.secondary; sequence = is.sequence }))
-judged profile count now t header field (Err faults.Header) law fits reported is parts (inr says) = absurd (says.2 parts.version)
-judged profile count now t header field (Err faults.Check) law fits reported is parts says =
-    absurd (says.1 (crc_zero law (front_of profile count now t)))
-judged profile count now t header field (Err faults.Data) law fits reported is parts says =
+judged profile count now t header field (Err faults.Header) fits reported is parts (inr says) = absurd (says.2 parts.version)
+judged profile count now t header field (Err faults.Check) fits reported is parts says =
+    absurd (says.1 (closed_zero (front_of profile count now t)))
+judged profile count now t header field (Err faults.Data) fits reported is parts says =
     let tells = subst (λ (l : List ℕ). Tells profile l t 0) (sym parts.content) (tells_itself profile t reported) in
     absurd (says.2 t 0 (sym parts.service) (sym parts.subtype) tells)
 
-handed : (profile : Profile) (count now : ℕ) (t : Told) (packet : Result SpacePacket SpaceFault) (read : Result Heard ReportFault) → CrcOfTheWhole
+handed : (profile : Profile) (count now : ℕ) (t : Told) (packet : Result SpacePacket SpaceFault) (read : Result Heard ReportFault)
     → profile.apid ≤ 2046
     → count < 2 ^ 14 → IsReportable profile t → ReadsPacket (report_of profile count now t) packet
     → HandsOn profile (report_of profile count now t) packet read
     → read ≡ Ok (heard.Report (heard_of profile (record { count = count; time = now; contents = t })))
-handed profile count now t (Ok packet) read law fits small reported reads hands =
+handed profile count now t (Ok packet) read fits small reported reads hands =
     let is = packet_is profile count now t packet.header packet.field.now fits small reads.0 reads.2 in
-    judged profile count now t packet.header packet.field.now read law fits reported is
+    judged profile count now t packet.header packet.field.now read fits reported is
     (whole_there profile count now t packet.field.now is.content) hands
-handed profile count now t (Err space.Length) read law fits small reported reads hands =
+handed profile count now t (Err space.Length) read fits small reported reads hands =
     let parts = report_parts profile count now t in
     let size = whole_size profile count now t in
     let third = parts.third in
     let all = parts.size in
     absurd (reads (record { least = omega arith; told = omega arith }))
-handed profile count now t (Err space.Version) read law fits small reported reads hands =
+handed profile count now t (Err space.Version) read fits small reported reads hands =
     let parts = report_parts profile count now t in
     let first = parts.first in
     absurd (reads.1 (omega arith))
 
-pub reports_come_back : CrcOfTheWhole → ReportsComeBack
-reports_come_back law profile sent read can reads =
-    handed profile sent.count sent.time sent.contents reads.packet read law profile.apid_fits can.counted can.reportable reads.reads reads.judges
+-- what a reader says of the octets of a report is that report
+pub reports_come_back : (profile : Profile) (sent : Sent) (read : Result Heard ReportFault) → CanBeSent profile sent
+    → ReadsReport profile (octets_of profile sent) read → read ≡ Ok (heard.Report (heard_of profile sent))
+reports_come_back profile sent read can reads =
+    handed profile sent.count sent.time sent.contents reads.packet read profile.apid_fits can.counted can.reportable reads.reads reads.judges
 
 sent_same : (a b : Sent) → a.count ≡ b.count → a.time ≡ b.time → a.contents ≡ b.contents → a ≡ b
 sent_same a b count time contents =
@@ -255,7 +253,8 @@ sent_same a b count time contents =
     ∙ ap (λ (x : ℕ). let s : Sent = record { count = b.count; time = x; contents = a.contents } in s) time
     ∙ ap (λ (x : Told). let s : Sent = record { count = b.count; time = b.time; contents = x } in s) contents
 
-pub reports_differ : ReportsDiffer
+-- different reports have different octets
+pub reports_differ : (profile : Profile) (a b : Sent) → CanBeSent profile a → CanBeSent profile b → octets_of profile a ≡ octets_of profile b → a ≡ b
 reports_differ profile a b a_can b_can e =
     let fits = profile.apid_fits in
     let ranged : IsHeader (report_header profile b.count) = record { apid = omega arith; count = b_can.counted } in

@@ -7,13 +7,16 @@ use Rattle.std.proofs.lemmas.Bool.{cases_lt}
 use Rattle.tc_types.specs.declared.requests.Identity.{Identity}
 use Rattle.tc_octets.specs.Bits.{pair_at}
 use Rattle.tc_octets.specs.Crc.{crc_of}
+use Rattle.tc_octets.specs.CrcLaws.{IsDamaged}
+use Rattle.tc_octets.proofs.CrcWholeLemmas.{damage_found}
 use Rattle.tc_octets.specs.declared.profiles.Profile.{Profile}
 use Rattle.tc_packets.specs.SpacePackets.{IsWhole, ReadsPacket, flag_bit, identification, sequence_bits, sequence_control, space_packet_of, type_bit}
 use Rattle.tc_packets.specs.SpacePackets.{version_in}
 use Rattle.tc_packets.specs.ReportReaders.{HandsOn, HasRoom, IsIdle, IsLong, IsOurs, IsReportHeader, IsSound, Judges, ReadsField}
+use Rattle.tc_packets.specs.ReportReaders.{ReadsReport}
 use Rattle.tc_packets.specs.SpacePackets.{IsHeader}
 use Rattle.tc_packets.specs.ReportReaders.{pus_version_in, service_in, source_data_in, subtype_in}
-use Rattle.tc_packets.specs.ReportLaws.{OneReading}
+use Rattle.tc_packets.specs.ReportLaws.{IsNoReport, ReportReadsBack}
 use Rattle.tc_packets.specs.declared.space_packets.PacketType.{PacketType}
 use Rattle.tc_packets.specs.declared.space_packets.PacketType.TheVariants as types
 use Rattle.tc_packets.specs.declared.space_packets.SequenceFlags.{SequenceFlags}
@@ -28,7 +31,7 @@ use Rattle.tc_packets.specs.declared.told.Heard.TheVariants as heard
 use Rattle.tc_packets.specs.declared.told.ReportFault.{ReportFault}
 use Rattle.tc_packets.specs.declared.told.ReportFault.TheVariants as faults
 use Rattle.tc_packets.proofs.ReportBackLemmas.{identity_same, tells_one}
-use Rattle.tc_packets.proofs.ReportLawLemmas.{PartsAre, heard_same, parts_there}
+use Rattle.tc_packets.proofs.ReportLawLemmas.{PartsAre, heard_same, parts_there, reports_come_back, reports_differ}
 
 -- ---- one space packet
 
@@ -289,5 +292,34 @@ handed_one profile octets (Err space.Version) (Ok q) a b p_reads q_reads p_hands
 handed_one profile octets (Err space.Version) (Err space.Length) a b p_reads q_reads p_hands q_hands = absurd (q_reads p_reads.0)
 handed_one profile octets (Err space.Version) (Err space.Version) a b p_reads q_reads p_hands q_hands = p_hands ∙ sym q_hands
 
-pub one_reading : OneReading
+-- octets are read as one thing
+one_reading : (profile : Profile) (octets : List ℕ) (a b : Result Heard ReportFault)
+    → ReadsReport profile octets a → ReadsReport profile octets b → a ≡ b
 one_reading profile octets a b x y = handed_one profile octets x.packet y.packet a b x.reads y.reads x.judges y.judges
+
+pub reads_back : (profile : Profile) (octets : List ℕ) (read : Result Heard ReportFault) → ReadsReport profile octets read
+    → ReportReadsBack profile octets read
+reads_back profile octets read says = record {
+  only = λ other h. one_reading profile octets other read h says;
+  back = λ sent can e. reports_come_back profile sent read can (subst (λ (l : List ℕ). ReadsReport profile l read) e says);
+  differ = λ a b a_can b_can x y. reports_differ profile a b a_can b_can (sym x ∙ y);
+}
+
+-- ---- damaged packets
+
+damage_judged : (profile : Profile) (octets : List ℕ) (header : PacketHeader) (field : List ℕ) (read : Result Heard ReportFault)
+    → Judges profile octets header field read → IsDamaged octets → IsNoReport read
+damage_judged profile octets header field (Ok (heard.Report report)) says bad = damage_found octets bad says.0.checked
+damage_judged profile octets header field (Ok (heard.Other service subtype)) says bad = damage_found octets bad says.0.checked
+damage_judged profile octets header field (Ok heard.Idle) says bad = tt
+damage_judged profile octets header field (Err fault) says bad = tt
+
+damage_handed : (profile : Profile) (octets : List ℕ) (packet : Result SpacePacket SpaceFault) (read : Result Heard ReportFault)
+    → HandsOn profile octets packet read → IsDamaged octets → IsNoReport read
+damage_handed profile octets (Ok packet) read says bad = damage_judged profile octets packet.header packet.field.now read says bad
+damage_handed profile octets (Err space.Length) read says bad = subst (λ (r : Result Heard ReportFault). IsNoReport r) (sym says) tt
+damage_handed profile octets (Err space.Version) read says bad = subst (λ (r : Result Heard ReportFault). IsNoReport r) (sym says) tt
+
+pub damaged_refused : (profile : Profile) (octets : List ℕ) (read : Result Heard ReportFault) → ReadsReport profile octets read → IsDamaged octets
+    → IsNoReport read
+damaged_refused profile octets read says bad = damage_handed profile octets says.packet read says.judges bad

@@ -1,5 +1,5 @@
 -- How many octets the packets of requests have.
-use Rattle.std.proofs.Common.{◌≡◌, ℕ, ◌*◌, ◌≤◌, Bool, true, false, List, [], ◌∷◌, ◌++◌, length, Some, None, refl, arith}
+use Rattle.std.proofs.Common.{◌≡◌, ℕ, ◌*◌, ◌≤◌, Bool, true, false, List, [], ◌∷◌, ◌++◌, length, Some, None, refl, ap, arith}
 use Rattle.std.specs.Prelude.{Option, flat_map}
 use Rattle.std.specs.List.{AllByRecursion}
 use Rattle.std.proofs.lemmas.List.{length-append}
@@ -9,9 +9,10 @@ use Rattle.tc_octets.specs.declared.profiles.Profile.{Profile}
 use Rattle.tc_packets.specs.OctetFields.{quad}
 use Rattle.tc_packets.specs.Times.{complement, fraction, fraction_length, offset_of, seconds_since, time_of}
 use Rattle.tc_packets.specs.Outcomes.{outcome_octets_of}
-use Rattle.tc_packets.specs.Flights.{FitsActivity, FitsPlain, FitsTask}
+use Rattle.tc_packets.specs.Flights.{Fits, FitsActivity, FitsPlain, FitsTask}
 use Rattle.tc_packets.specs.Telecommands.{activity_of, activity_packet_of, data_of, outcome_part, plain_data_of, service_of, subtype_of, target_of}
-use Rattle.tc_packets.specs.TelecommandLaws.{TelecommandsAreShort}
+use Rattle.tc_packets.specs.Telecommands.{telecommand_of}
+use Rattle.tc_packets.specs.declared.flights.Flight.{Flight}
 use Rattle.tc_packets.specs.declared.flights.Plain.{Plain}
 use Rattle.tc_packets.specs.declared.flights.FlightActivity.{FlightActivity}
 use Rattle.tc_packets.specs.declared.flights.FlightTask.{FlightTask}
@@ -82,10 +83,14 @@ data_small profile (tasks.ShiftActivity target offset) h =
 data_small profile (tasks.ShiftAll offset) h = omega (arith, quad_small profile.fine (complement offset))
 data_small profile tasks.SummarizeAll h = omega arith
 
-pub telecommands_short : TelecommandsAreShort
+pub telecommands_short : (profile : Profile) (flight : Flight) → Fits profile flight → length (telecommand_of profile flight) ≤ 958
 telecommands_short profile flight h =
     omega (
       arith,
       packet_length profile flight.identity flight.ack (service_of flight.task) (subtype_of flight.task) (data_of profile flight.task),
       data_small profile flight.task h.asked,
     )
+
+pub telecommand_short : (profile : Profile) (flight : Flight) (octets : List ℕ) → Fits profile flight → octets ≡ telecommand_of profile flight
+    → length octets ≤ 958
+telecommand_short profile flight octets h e = omega (arith, ap (λ (l : List ℕ). length l) e, telecommands_short profile flight h)

@@ -1,20 +1,25 @@
 -- What is written for a request is read as that request.
 use Rattle.std.proofs.Common.{◌≡◌, ℕ, ◌+◌, ◌≤◌, false, List, [], ◌∷◌, ◌++◌, take, drop, length, Ok, Err, refl, sym, ap, ◌∙◌, subst, arith}
-use Rattle.std.specs.Prelude.{◌≢◌, IsTrue, flat_map}
+use Rattle.std.specs.Prelude.{◌≢◌, IfOk, IsErr, IsTrue, Result, flat_map}
 use Rattle.std.proofs.lemmas.List.{take_at, take_all, drop_at, drop-drop, take-append-drop, length-append, append_assoc}
+use Rattle.tc_octets.specs.CrcLaws.{IsDamaged}
 use Rattle.tc_octets.specs.declared.profiles.Profile.{Profile}
+use Rattle.tc_octets.proofs.CrcWholeLemmas.{damage_shows}
 use Rattle.tc_packets.specs.OctetFields.{quad}
 use Rattle.tc_packets.specs.Times.{HasSeconds, complement, fraction, fraction_length, offset_of, seconds_since, time_length, time_of}
 use Rattle.tc_packets.specs.Flights.{Fits, FitsTask}
 use Rattle.tc_packets.specs.Telecommands.{activity_of, activity_packet_of, data_of, packet_of, schedule, service_of, subtype_of, target_of}
-use Rattle.tc_packets.specs.Telecommands.{telecommand_of}
-use Rattle.tc_packets.specs.TelecommandReaders.{BeginsWith, HasActivities, HasData, IsTelecommand, Passes, activity_length, data_in}
+use Rattle.tc_packets.specs.Identities.{request_header}
+use Rattle.tc_packets.specs.SpacePackets.{header_of}
+use Rattle.tc_packets.specs.Telecommands.{secondary_header_of, telecommand_of}
+use Rattle.tc_packets.specs.TelecommandReaders.{BeginsWith, HasActivities, HasData, IsTelecommand, Passes, Reads, activity_length, data_in}
 use Rattle.tc_packets.specs.TelecommandReaders.{is_schedule_subtype}
-use Rattle.tc_packets.specs.TelecommandLaws.{NothingElseIsRead, TelecommandsComeBack, TelecommandsDiffer}
+use Rattle.tc_packets.specs.TelecommandLaws.{ReadsBack}
 use Rattle.tc_packets.specs.declared.flights.FlightActivity.{FlightActivity}
 use Rattle.tc_packets.specs.declared.flights.FlightTask.{FlightTask}
 use Rattle.tc_packets.specs.declared.flights.FlightTask.TheVariants as tasks
 use Rattle.tc_packets.specs.declared.flights.Flight.{Flight}
+use Rattle.tc_packets.specs.declared.telecommand_readers.PacketFault.{PacketFault}
 use Rattle.tc_packets.specs.declared.telecommand_readers.PacketFault.TheVariants as faults
 use Rattle.tc_packets.proofs.PacketLemmas.{parts_there, passes_there}
 use Rattle.tc_packets.proofs.SizeLemmas.{fraction_is}
@@ -92,11 +97,6 @@ telecommand_there profile flight fit =
       whole = ap (packet_of profile flight.identity flight.ack (service_of flight.task) (subtype_of flight.task)) (sym parts.carries);
     }
 
-pub telecommands_differ : TelecommandsDiffer
-telecommands_differ profile a b fa fb e =
-    flight_same profile (telecommand_of profile a) a b (telecommand_there profile a fa)
-    (subst (λ (l : List ℕ). IsTelecommand profile l b) (sym e) (telecommand_there profile b fb))
-
 -- ---- a reader says nothing against it
 
 -- a service and a subtype of the link
@@ -132,18 +132,32 @@ flight_passes profile octets flight is =
     passes_there profile octets flight.identity flight.ack (service_of flight.task) (subtype_of flight.task) (data_in octets)
     (flight_parts profile octets flight is) is.fit.flying known.service_some known.subtype_some known.scheduled
 
-pub telecommands_come_back : TelecommandsComeBack
-telecommands_come_back profile flight (Ok read) fit says =
-    ap Ok (flight_same profile (telecommand_of profile flight) read flight says (telecommand_there profile flight fit))
-telecommands_come_back profile flight (Err faults.Length) fit says =
-    let passes = flight_passes profile (telecommand_of profile flight) flight (telecommand_there profile flight fit) in absurd (says passes.long)
-telecommands_come_back profile flight (Err faults.Check) fit says =
-    let passes = flight_passes profile (telecommand_of profile flight) flight (telecommand_there profile flight fit) in absurd (says.1 passes.right)
-telecommands_come_back profile flight (Err faults.Header) fit says =
-    let passes = flight_passes profile (telecommand_of profile flight) flight (telecommand_there profile flight fit) in absurd (says.2 passes.header)
-telecommands_come_back profile flight (Err faults.Subtype) fit says =
-    let passes = flight_passes profile (telecommand_of profile flight) flight (telecommand_there profile flight fit) in absurd (says.3 passes.kind)
-telecommands_come_back profile flight (Err faults.Data) fit says = absurd (says.1 flight (telecommand_there profile flight fit))
+-- what a reader says of the octets of a request's packet is that request
+one_read : (profile : Profile) (octets : List ℕ) (flight : Flight) (read : Result Flight PacketFault) → IsTelecommand profile octets flight
+    → Reads profile octets read → read ≡ Ok flight
+one_read profile octets flight (Ok other) is says = ap Ok (flight_same profile octets other flight says is)
+one_read profile octets flight (Err faults.Length) is says =
+    let passes = flight_passes profile octets flight is in absurd (says passes.long)
+one_read profile octets flight (Err faults.Check) is says =
+    let passes = flight_passes profile octets flight is in absurd (says.1 passes.right)
+one_read profile octets flight (Err faults.Header) is says =
+    let passes = flight_passes profile octets flight is in absurd (says.2 passes.header)
+one_read profile octets flight (Err faults.Subtype) is says =
+    let passes = flight_passes profile octets flight is in absurd (says.3 passes.kind)
+one_read profile octets flight (Err faults.Data) is says = absurd (says.1 flight is)
+
+pub telecommands_come_back : (profile : Profile) (flight : Flight) (read : Result Flight PacketFault) → Fits profile flight
+    → Reads profile (telecommand_of profile flight) read → read ≡ Ok flight
+telecommands_come_back profile flight read fit says =
+    one_read profile (telecommand_of profile flight) flight read (telecommand_there profile flight fit) says
+
+pub reads_back : (profile : Profile) (octets : List ℕ) (read : Result Flight PacketFault) → Reads profile octets read
+    → ReadsBack profile octets read
+reads_back profile octets read says = record {
+  only = λ flight is. one_read profile octets flight read is says;
+  back =
+      λ flight fit e. telecommands_come_back profile flight read fit (subst (λ (l : List ℕ). Reads profile l read) e says);
+}
 
 -- ---- where times have no fraction, nothing else is read
 
@@ -186,8 +200,26 @@ data_written profile octets (tasks.ShiftActivity target offset) coarse has =
 data_written profile octets (tasks.ShiftAll offset) coarse has = seconds_written profile octets (complement offset) coarse has
 data_written profile octets tasks.SummarizeAll coarse has = has
 
-pub nothing_else : NothingElseIsRead
+nothing_else : (profile : Profile) (octets : List ℕ) (flight : Flight) → profile.fine ≡ false → IsTelecommand profile octets flight
+    → octets ≡ telecommand_of profile flight
 nothing_else profile octets flight coarse is =
     is.whole
     ∙ ap (packet_of profile flight.identity flight.ack (service_of flight.task) (subtype_of flight.task))
     (data_written profile (data_in octets) flight.task coarse is.application)
+
+pub exactly_read : (profile : Profile) (octets : List ℕ) (read : Result Flight PacketFault) → Reads profile octets read → profile.fine ≡ false
+    → IfOk read (λ flight. octets ≡ telecommand_of profile flight)
+exactly_read profile octets (Ok flight) says coarse = nothing_else profile octets flight coarse says
+exactly_read profile octets (Err fault) says coarse = tt
+
+-- ---- damaged packets are refused
+
+pub damaged_refused : (profile : Profile) (octets : List ℕ) (read : Result Flight PacketFault) → Reads profile octets read → IsDamaged octets
+    → IsErr read
+damaged_refused profile octets (Ok flight) says bad =
+    absurd
+    (damage_shows octets
+    (header_of (request_header flight.identity) (7 + length (data_in octets))
+    ++ secondary_header_of profile flight.ack (service_of flight.task) (subtype_of flight.task)
+    ++ data_in octets) bad says.whole)
+damaged_refused profile octets (Err fault) says bad = refl

@@ -1,11 +1,10 @@
 -- What holds of packets that are sent over telemetry frames and received again.
-use Rattle.std.specs.Prelude.{◌≡◌, ℕ, ◌%◌, ◌^◌, ◌<◌, ◌≤◌, ◌+◌, ◌==◌, if◌then◌else◌, Bool, true, false, List, [], ◌∷◌, ◌++◌, length, map, slice_index}
-use Rattle.std.specs.List.{AllByRecursion}
+use Rattle.std.specs.Prelude.{◌≡◌, ℕ, ◌%◌, ◌^◌, ◌<◌, ◌+◌, ◌==◌, if◌then◌else◌, Bool, true, List, [], ◌∷◌, ◌++◌, length, map, slice_index}
 use Rattle.tc_octets.specs.Bits.{pair_at}
 use Rattle.tc_octets.specs.TmFrames.{TmParts}
 use Rattle.tc_octets.specs.declared.profiles.Profile.{Profile}
 use Rattle.tc_packets.specs.Carriers.{data_length, filled, frames_of}
-use Rattle.tc_packets.specs.Receivers.{Given, IsPart, Receiver, cut, gap, is_next, packet, received, received_to, skipped}
+use Rattle.tc_packets.specs.Receivers.{Given, Receiver, cut, gap, is_next, packet, received, received_to, skipped}
 use Rattle.tc_packets.specs.SpacePackets.{whole_length_in}
 use Rattle.tc_packets.specs.declared.tm_senders.TmSender.{TmSender}
 
@@ -50,21 +49,3 @@ pub record ComesBack (profile : Profile) (sender : TmSender) (word : ℕ) (packe
   pub given : (run receiver (frames_of profile sender word packets)).given ≡ map packet (filled (data_length profile) packets)
   pub awaits : Awaits (run receiver (frames_of profile sender word packets)).receiver
       ((sender.channel_count + length (frames_of profile sender word packets)) % 2 ^ 8)
-
--- A list of packets that is sent comes back, from a receiver that awaits its first frame.
-abbrev pub PacketsComeBack : Type 0
-PacketsComeBack =
-    (profile : Profile) (sender : TmSender) (word : ℕ) (packets : List (List ℕ)) (receiver : Receiver) → AllByRecursion IsPacket packets
-    → Awaits receiver (sender.channel_count % 2 ^ 8) → ComesBack profile sender word packets receiver
-
--- Without idle packets it is the list that was sent.
-abbrev pub ReportsComeBack : Type 0
-ReportsComeBack =
-    (profile : Profile) (sender : TmSender) (word : ℕ) (packets : List (List ℕ)) (receiver : Receiver) → AllByRecursion IsPacket packets
-    → AllByRecursion (λ octets. is_idle octets ≡ false) packets → Awaits receiver (sender.channel_count % 2 ^ 8)
-    → reports_in (run receiver (frames_of profile sender word packets)).given ≡ packets
-
--- What is in progress is less than a whole packet, and stays so, whatever frames come: at most 65,541 octets.
-pub record PartsStayShort : Type 0 where
-  pub stays : (receiver : Receiver) (frame : TmParts) → IsPart receiver.part → IsPart (received receiver frame).part
-  pub bound : (part : List ℕ) → ((i : ℕ) → slice_index part i < 2 ^ 8) → IsPart part → length part ≤ 65541

@@ -4,7 +4,7 @@ use Rattle.std.specs.List.{AllByRecursion, list_all, range_with_len}
 use Rattle.tc_octets.specs.TmFrames.{TmParts}
 use Rattle.tc_octets.specs.declared.profiles.Profile.{Profile}
 use Rattle.tc_packets.specs.Carriers.{data_length, filled, frames_of}
-use Rattle.tc_packets.specs.CarrierLaws.{IsPacket, run}
+use Rattle.tc_packets.specs.CarrierLaws.{Awaits, ComesBack, IsPacket, is_idle, reports_in, run}
 use Rattle.tc_packets.specs.Receivers.{Given, Receiver, cut, gap, packet, skipped}
 use Rattle.tc_packets.specs.declared.tm_senders.TmSender.{TmSender}
 
@@ -61,10 +61,16 @@ pub record LossesShow (profile : Profile) (sender : TmSender) (word : ℕ) (pack
   pub ready : Behind (run receiver (kept came (frames_of profile sender word packets))).receiver
       (sender.channel_count + length (frames_of profile sender word packets)) (lost_after lost came)
 
--- If whole frames are lost, no 256 or more in a row, exactly those packets come all of whose octets lie in frames that came. So it is of one list
--- after the other: each leaves the receiver as the next one may find it.
-abbrev pub WholePacketsCome : Type 0
-WholePacketsCome =
-    (profile : Profile) (sender : TmSender) (word : ℕ) (packets : List (List ℕ)) (receiver : Receiver) (lost : ℕ) (came : List Bool)
-    → AllByRecursion IsPacket packets → Behind receiver sender.channel_count lost → length came ≡ length (frames_of profile sender word packets)
-    → FewLost lost came → LossesShow profile sender word packets receiver lost came
+-- What comes of a list of packets that is sent.
+pub record ComesOver (profile : Profile) (sender : TmSender) (word : ℕ) (packets : List (List ℕ)) : Type 0 where
+  -- It comes back with its fill, at a receiver that awaits its first frame.
+  pub whole : (receiver : Receiver) → AllByRecursion IsPacket packets → Awaits receiver (sender.channel_count % 2 ^ 8)
+      → ComesBack profile sender word packets receiver
+  -- Without idle packets it is the list that was sent.
+  pub reports : (receiver : Receiver) → AllByRecursion IsPacket packets → AllByRecursion (λ octets. is_idle octets ≡ false) packets
+      → Awaits receiver (sender.channel_count % 2 ^ 8) → reports_in (run receiver (frames_of profile sender word packets)).given ≡ packets
+  -- If whole frames are lost, no 256 or more in a row, exactly those packets come all of whose octets lie in frames that came. So it is of one list
+  -- after the other: each leaves the receiver as the next one may find it.
+  pub losses : (receiver : Receiver) (lost : ℕ) (came : List Bool) → AllByRecursion IsPacket packets → Behind receiver sender.channel_count lost
+      → length came ≡ length (frames_of profile sender word packets) → FewLost lost came
+      → LossesShow profile sender word packets receiver lost came

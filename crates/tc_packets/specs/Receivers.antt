@@ -1,5 +1,5 @@
 -- The receiver of packets over telemetry frames of one virtual channel (CCSDS 132.0-B, 4.1). It joins packets again by first header pointers.
-use Rattle.std.specs.Prelude.{◌≡◌, map, Vec, ℕ, zero, suc, ◌+◌, ◌-◌, ◌/◌, ◌%◌, ◌^◌, ◌<◌, ◌==◌, ◌&&◌, ◌||◌, not, nat_le, nat_lt, if◌then◌else◌, Bool}
+use Rattle.std.specs.Prelude.{◌≡◌, map, Vec, ℕ, zero, suc, ◌+◌, ◌-◌, ◌/◌, ◌%◌, ◌^◌, ◌<◌, ◌≤◌, ◌==◌, ◌&&◌, ◌||◌, not, nat_le, nat_lt, if◌then◌else◌, Bool}
 use Rattle.std.specs.Prelude.{true, false, List, [], ◌∷◌, ◌++◌, length, take, drop, slice_index, Option, Some, None}
 use Rattle.tc_octets.specs.TmFrames.{TmParts}
 use Rattle.tc_packets.specs.SpacePackets.{whole_length_in}
@@ -115,3 +115,8 @@ received_to receiver frame = record { part = (received receiver frame).part; exp
 -- a packet in progress is less than a whole one
 abbrev pub IsPart : List ℕ → Type 0
 IsPart part = length part < whole_length_in part
+
+-- So it has at most 65,541 octets.
+pub record IsShortPart (part : List ℕ) : Type 0 where
+  pub less : IsPart part
+  pub most : ((i : ℕ) → slice_index part i < 2 ^ 8) → length part ≤ 65541

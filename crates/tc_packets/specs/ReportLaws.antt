@@ -1,5 +1,5 @@
 -- What holds of telemetry reports.
-use Rattle.std.specs.Prelude.{◌≡◌, ℕ, ◌^◌, ◌<◌, Result, Ok, List}
+use Rattle.std.specs.Prelude.{◌≡◌, ℕ, ◌^◌, ◌<◌, Result, Ok, List, ⊤}
 use Rattle.tc_octets.specs.declared.profiles.Profile.{Profile}
 use Rattle.tc_packets.specs.Times.{HasTime}
 use Rattle.tc_packets.specs.declared.told.Told.{Told}
@@ -28,16 +28,17 @@ octets_of profile sent = report_of profile sent.count sent.time sent.contents
 abbrev pub heard_of : Profile → Sent → HeardReport
 heard_of profile sent = record { origin = record { apid = profile.apid; count = sent.count }; told = sent.contents; passed = 0 }
 
--- what a reader says of the octets of a report is that report
-abbrev pub ReportsComeBack : Type 0
-ReportsComeBack = (profile : Profile) (sent : Sent) (read : Result Heard ReportFault) → CanBeSent profile sent
-    → ReadsReport profile (octets_of profile sent) read → read ≡ Ok (heard.Report (heard_of profile sent))
+-- What octets are read as.
+pub record ReportReadsBack (profile : Profile) (octets : List ℕ) (read : Result Heard ReportFault) : Type 0 where
+  -- no other answer is right
+  pub only : (other : Result Heard ReportFault) → ReadsReport profile octets other → other ≡ read
+  -- what is written for a report is read as that report
+  pub back : (sent : Sent) → CanBeSent profile sent → octets ≡ octets_of profile sent → read ≡ Ok (heard.Report (heard_of profile sent))
+  -- different reports have different octets
+  pub differ : (a b : Sent) → CanBeSent profile a → CanBeSent profile b → octets ≡ octets_of profile a → octets ≡ octets_of profile b → a ≡ b
 
--- different reports have different octets
-abbrev pub ReportsDiffer : Type 0
-ReportsDiffer = (profile : Profile) (a b : Sent) → CanBeSent profile a → CanBeSent profile b → octets_of profile a ≡ octets_of profile b → a ≡ b
-
--- octets are read as one thing
-abbrev pub OneReading : Type 0
-OneReading = (profile : Profile) (octets : List ℕ) (a b : Result Heard ReportFault)
-    → ReadsReport profile octets a → ReadsReport profile octets b → a ≡ b
+-- It is no report, and no packet for another.
+abbrev pub IsNoReport : Result Heard ReportFault → Type 0
+IsNoReport (Ok (heard.Report report)) = ⊥
+IsNoReport (Ok (heard.Other service subtype)) = ⊥
+IsNoReport other = ⊤

@@ -31,7 +31,7 @@ impl Model for ApplicationData {
 }
 
 impl ApplicationData {
-    /// These octets; `None` if they are more than 96.
+    /// Returns these octets; `None` if they are more than 96.
     pub fn of(octets: &[u8]) -> Option<ApplicationData>
         ensures found { IsSome result ↔ (length octets.now ≤ most_data) }
         ensures value { IfSome result (λ d. d ≡ octets.now) }
@@ -47,7 +47,7 @@ impl ApplicationData {
         })
     }
 
-    /// No octets.
+    /// Returns an empty one.
     pub fn none() -> ApplicationData
         ensures { result ≡ [] }
     {
@@ -57,7 +57,7 @@ impl ApplicationData {
         }
     }
 
-    /// The octets, in order.
+    /// Returns the octets, in order.
     pub fn as_slice(&self) -> &[u8]
         ensures octets { result.now ≡ self.now }
         ensures few { length self.now ≤ most_data }

@@ -11,7 +11,7 @@ use std::marker::Model;
 use tc_octets::Profile;
 use tc_types::{Ack, Identity, MOST_INSERTED, Moment, Offset, Outcome, Service, Subtype};
 
-/// What a plain request asks for: a message of any service but 11 (ECSS-E-ST-70-41C, 5.3.3).
+/// The message of a plain request, of any service but 11 (ECSS-E-ST-70-41C, 5.3.3).
 #[derive(Clone, Copy, Debug, PartialEq, Eq)]
 pub struct Plain {
     /// The service type.
@@ -33,7 +33,7 @@ pub struct FlightActivity {
     pub identity: Identity,
     /// The reports of success that it asks for.
     pub ack: Ack,
-    /// What it asks for.
+    /// Its message.
     pub plain: Plain,
 }
 
@@ -61,7 +61,7 @@ impl Model for FlightActivities {
     ghost inverse = { λ activities. record { places = padded activities; count = length activities } };
 }
 
-/// What a request asks for. The schedule's are those of ECSS-E-ST-70-41C, service 11; activities are named as on board.
+/// The task of a request. The schedule's are those of ECSS-E-ST-70-41C, service 11; activities are named as on board.
 #[derive(Clone, Copy, Debug, PartialEq, Eq)]
 pub enum FlightTask {
     /// Any service but 11.
@@ -91,12 +91,12 @@ pub struct Flight {
     pub identity: Identity,
     /// The reports of success that it asks for.
     pub ack: Ack,
-    /// What it asks for.
+    /// Its task.
     pub task: FlightTask,
 }
 
 impl FlightActivities {
-    /// The list of these; `None` unless they are 1 to 8.
+    /// Returns the list of these; `None` unless they are 1 to 8.
     pub fn of(activities: &[FlightActivity]) -> Option<FlightActivities>
         ensures found { IsSome result ↔ IsInsert activities.now }
         ensures value { IfSome result (λ a. a ≡ activities.now) }
@@ -113,7 +113,7 @@ impl FlightActivities {
         })
     }
 
-    /// Them, in order.
+    /// Returns them, in order.
     pub fn as_slice(&self) -> &[FlightActivity]
         ensures activities { result.now ≡ self.now }
         ensures few { IsInsert self.now }
@@ -122,7 +122,7 @@ impl FlightActivities {
     }
 }
 
-/// Whether an outcome flies just if the spacecraft is a rehearsal's.
+/// Returns whether an outcome flies just if the spacecraft is a rehearsal's.
 fn fits_outcome(rehearsal: bool, outcome: &Option<Outcome>) -> bool
     ensures { IsTrue result ↔ FitsOutcome rehearsal outcome.now }
 {
@@ -135,7 +135,7 @@ fn fits_outcome(rehearsal: bool, outcome: &Option<Outcome>) -> bool
     }
 }
 
-/// Whether a plain request has octets.
+/// Returns whether a plain request has octets.
 fn fits_plain(profile: &Profile, plain: &Plain) -> bool
     ensures { IsTrue result ↔ FitsPlain profile.now plain.now }
 {
@@ -145,7 +145,7 @@ fn fits_plain(profile: &Profile, plain: &Plain) -> bool
     fits_outcome(profile.rehearsal, &plain.outcome)
 }
 
-/// Whether an activity has octets.
+/// Returns whether an activity has octets.
 fn fits_activity(profile: &Profile, activity: &FlightActivity) -> bool
     ensures { IsTrue result ↔ FitsActivity profile.now activity.now }
 {
@@ -154,7 +154,7 @@ fn fits_activity(profile: &Profile, activity: &FlightActivity) -> bool
         && fits_plain(profile, &activity.plain)
 }
 
-/// Whether each of these activities has octets.
+/// Returns whether each of these activities has octets.
 #[tactic(auto, using(crate::proofs::ListLemmas::each_more, crate::proofs::ListLemmas::each_here, crate::proofs::ListLemmas::each_all))]
 fn fit_activities(profile: &Profile, activities: &[FlightActivity]) -> bool
     ensures { IsTrue result ↔ AllByRecursion (FitsActivity profile.now) activities.now }
@@ -167,7 +167,7 @@ fn fit_activities(profile: &Profile, activities: &[FlightActivity]) -> bool
     true
 }
 
-/// Whether what a request asks for has octets.
+/// Returns whether a task has octets.
 fn fits_task(profile: &Profile, task: &FlightTask) -> bool
     ensures { IsTrue result ↔ FitsTask profile.now task.now }
 {
@@ -184,7 +184,7 @@ fn fits_task(profile: &Profile, task: &FlightTask) -> bool
     }
 }
 
-/// Whether a request can fly under this profile: its numbers have octets, and plain requests have an outcome exactly if outcomes fly.
+/// Returns whether a request can fly under this profile: its numbers have octets, and plain requests have an outcome exactly if outcomes fly.
 pub fn fits(profile: &Profile, flight: &Flight) -> bool
     ensures { IsTrue result ↔ Fits profile.now flight.now }
 {

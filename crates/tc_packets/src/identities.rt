@@ -28,7 +28,7 @@ pub struct ActivityName {
     pub identity: Identity,
 }
 
-/// Whether a request of this identity flies: it does not have the APID of idle packets.
+/// Returns whether a request of this identity flies: it does not have the APID of idle packets.
 pub fn flies(identity: Identity) -> bool
     ensures { IsTrue result ↔ Flies identity }
 {
@@ -47,7 +47,7 @@ pub fn put_request_id<A: Allocator + Copy>(
     put_pair(out, WHOLE * 0x4000 + identity.count.get())
 }
 
-/// The identity whose request id these four octets are.
+/// Returns the identity whose request id these four octets are.
 pub fn read_request_id(octets: &[u8]) -> Option<Identity>
     requires { length octets.now ≡ 4 }
     ensures { ReadsRequestId octets.now result }
@@ -75,7 +75,7 @@ pub fn put_name<A: Allocator + Copy>(
     put_pair(out, name.identity.count.get())
 }
 
-/// The name of an activity that these six octets are.
+/// Returns the name of an activity that these six octets are.
 pub fn read_name(octets: &[u8]) -> Option<ActivityName>
     requires { length octets.now ≡ 6 }
     ensures { ReadsName octets.now result }

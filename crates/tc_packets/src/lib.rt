@@ -4,14 +4,11 @@
 #![tactic(auto)]
 
 mod application_data;
-pub mod carrier_laws;
 mod flights;
 mod identities;
-pub mod laws;
 mod octet_fields;
 mod outcomes;
 mod packet_readers;
-pub mod report_laws;
 mod report_readers;
 mod reports;
 mod space_packets;

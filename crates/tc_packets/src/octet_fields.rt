@@ -28,7 +28,7 @@ pub(crate) fn put_quad<A: Allocator + Copy>(
     put_pair(out, (number % 0x1_0000) as u16)
 }
 
-/// The number that two octets are.
+/// Returns the number that two octets are.
 pub(crate) fn pair_in(octets: &[u8], at: usize) -> u16
     requires { at + 1 < length octets.now }
     ensures { result ≡ pair_at octets.now at }
@@ -36,7 +36,7 @@ pub(crate) fn pair_in(octets: &[u8], at: usize) -> u16
     u16::from(octets[at]) * 256 + u16::from(octets[at + 1])
 }
 
-/// The first so many octets.
+/// Returns the first so many octets.
 pub(crate) fn octets_before(octets: &[u8], at: usize) -> &[u8]
     requires { at ≤ length octets.now }
     ensures { result.now ≡ take at octets.now }
@@ -44,7 +44,7 @@ pub(crate) fn octets_before(octets: &[u8], at: usize) -> &[u8]
     &octets[..at]
 }
 
-/// The octets after the first so many.
+/// Returns the octets from this place on.
 pub(crate) fn octets_from(octets: &[u8], at: usize) -> &[u8]
     requires { at ≤ length octets.now }
     ensures { result.now ≡ drop at octets.now }
@@ -52,7 +52,7 @@ pub(crate) fn octets_from(octets: &[u8], at: usize) -> &[u8]
     &octets[at..]
 }
 
-/// The number that four octets are.
+/// Returns the number that four octets are.
 pub(crate) fn quad_in(octets: &[u8], at: usize) -> u32
     requires { at + 3 < length octets.now }
     ensures { result ≡ quad_at octets.now at }

@@ -8,7 +8,7 @@ use tc_types::{FailureCode, Outcome, Steps};
 /// The octets of an outcome.
 pub const OUTCOME: usize = 3;
 
-/// The octets of an outcome: kind, steps and code (this project's own).
+/// Returns the octets of an outcome: kind, steps and code (this project's own).
 fn outcome_octets(outcome: Outcome) -> [u8; 3]
     ensures { result ≡ outcome_octets_of outcome }
 {
@@ -32,7 +32,7 @@ pub fn put_outcome<A: Allocator + Copy>(
     out.extend_from_slice(&outcome_octets(outcome))
 }
 
-/// The outcome that these octets are.
+/// Returns the outcome that these octets are.
 pub fn read_outcome(octets: &[u8]) -> Option<Outcome>
     ensures { ReadsOutcome octets.now result }
 {

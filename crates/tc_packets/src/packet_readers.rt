@@ -1,8 +1,8 @@
 //! The receiver of packets over telemetry frames of one virtual channel.
 ghost use Rattle.std.specs.Prelude.{◌≡◌, ◌++◌, ◌∷◌, [], ◌<◌, ◌≤◌, nat_lt, OnErr, OnOk, IfOk, length, map};
 ghost use Rattle.tc_octets.specs.TmFrames.{tm_parts};
-ghost use Rattle.tc_packets.specs.Receivers.{Appends, begun, carried, continued, dropped, ended, fresh, given_of, is_next, is_skipped, looked_at};
-ghost use Rattle.tc_packets.specs.Receivers.{packet, received, received_to};
+ghost use Rattle.tc_packets.specs.Receivers.{Appends, IsShortPart, begun, carried, continued, dropped, ended, fresh, given_of, is_next, is_skipped};
+ghost use Rattle.tc_packets.specs.Receivers.{looked_at, packet, received, received_to};
 ghost use Rattle.tc_packets.specs.SpacePackets.{whole_length_in};
 
 use crate::space_packets::{HEADER, whole_length};
@@ -16,7 +16,7 @@ const IDLE_DATA: usize = 2046;
 /// The first header pointer of a frame in which no packet starts.
 const NO_START: usize = 2047;
 
-/// What a receiver gives: packets and marks, in order.
+/// An item of a receiver's output: a packet or a mark.
 #[derive(Drop)]
 pub enum Item<A: Allocator + Copy + Drop> {
     /// The octets of a packet.
@@ -29,7 +29,7 @@ pub enum Item<A: Allocator + Copy + Drop> {
     Skipped,
 }
 
-/// Whether these octets are less than the packet that they begin.
+/// Returns whether these octets are less than the packet that they begin.
 fn is_short(octets: &[u8]) -> bool
     ensures { result ≡ nat_lt (length octets.now) (whole_length_in octets.now) }
 {
@@ -105,7 +105,7 @@ fn go_on<A: Allocator + Copy + Drop>(
     end_part(alloc, joined, may_go_on, out)
 }
 
-/// Takes packets from where one begins, one after the other.
+/// Takes packets one after the other from octets that begin with one.
 fn begin<A: Allocator + Copy + Drop>(
     alloc: A,
     octets: &[u8],
@@ -154,7 +154,7 @@ fn carry<A: Allocator + Copy + Drop>(
     begin(alloc, &content[pointer..], out)
 }
 
-/// Whether a frame with this data field status is skipped.
+/// Returns whether a frame with this data field status is skipped.
 #[tactic(auto, unfolding(crate::specs::Receivers::is_skipped))]
 fn is_skipped(status: u16, size: usize) -> bool
     ensures { result ≡ is_skipped status size }
@@ -181,7 +181,7 @@ fn look_at<A: Allocator + Copy + Drop>(
     carry(alloc, usize::from(status % 0x800), content, part, out)
 }
 
-/// Whether a frame with this count comes next.
+/// Returns whether a frame with this count comes next.
 fn is_next(expected: Option<u8>, count: u8) -> bool
     ensures { result ≡ is_next expected count }
 {
@@ -231,7 +231,7 @@ impl<A: Allocator + Copy + Drop> Model for PacketReader<A> {
 }
 
 impl<A: Allocator + Copy + Drop> PacketReader<A> {
-    /// A receiver that has seen no frame: no packet is in progress, and any count is taken. It takes no memory.
+    /// Returns a receiver that has seen no frame: no packet is in progress, and any count is taken. It takes no memory.
     pub fn new(alloc: A) -> PacketReader<A>
         ensures { result ≡ fresh }
     {
@@ -244,10 +244,12 @@ impl<A: Allocator + Copy + Drop> PacketReader<A> {
 
     /// Takes the next frame of the channel, and adds what it brings: packets and marks, in order. Fails if memory is refused; nothing is added then,
     /// and the receiver is as it was, so the frame can be given again.
+    #[tactic(auto, using(crate::proofs::ReceiverLemmas::short_part))]
     pub fn frame(&mut self, frame: &TmFrame, out: &mut Vec<Item<A>, A>) -> Result<(), AllocError>
         ensures given { OnOk result (map given_of out.new.items ≡ map given_of out.old.items ++ (received self.old (tm_parts frame.now)).given) }
         ensures after { OnOk result (self.new ≡ received_to self.old (tm_parts frame.now)) }
         ensures refused { OnErr result ((self.new ≡ self.old) × (out.new.items ≡ out.old.items)) }
+        ensures short { IsShortPart self.new.part }
     {
         let mut given = Vec::new(self.alloc);
         let part = receive(self.alloc, &self.part, self.expected, frame, &mut given)?;

@@ -1,9 +1,11 @@
-//! What telemetry packets tell.
-ghost use Rattle.std.specs.Prelude.{◌≡◌, ◌+◌, ◌++◌, ◌∷◌, ◌<◌, ◌≤◌, ◌↔◌, [], List, ℕ, IsTrue, length, Option, Some, Bool};
+//! The reader of telemetry packets.
+ghost use Rattle.std.specs.Prelude.{◌≡◌, ◌+◌, ◌++◌, ◌∷◌, ◌<◌, ◌≤◌, ◌↔◌, [], IsTrue, length, Option, Some, Bool};
 ghost use Rattle.std.specs.List.{filter_map};
 ghost use Rattle.std.specs.Option.{MatchOption};
 ghost use Rattle.tc_types.specs.Limits.{most_activities};
 ghost use Rattle.tc_octets.specs.declared.profiles.Profile.{Profile as SomeProfile};
+ghost use Rattle.tc_octets.specs.CrcLaws.{IsDamaged};
+ghost use Rattle.tc_packets.specs.ReportLaws.{IsNoReport, ReportReadsBack};
 ghost use Rattle.tc_packets.specs.Reports.{status_of};
 ghost use Rattle.tc_packets.specs.ReportReaders.{Entry as SomeEntry, HasNoEntries, HasRoom, IsEntry, IsKnown, IsOurs, IsReportHeader};
 ghost use Rattle.tc_packets.specs.ReportReaders.{IsSound, Judges, Lists, ReadsDetails, ReadsField, ReadsReport, ReadsSource, entry_length};
@@ -177,7 +179,7 @@ fn summary_in(profile: &Profile, origin: Identity, octets: &[u8]) -> Option<Hear
     })
 }
 
-/// Whether a report of this type is read.
+/// Returns whether a report of this type is read.
 fn is_known(service: u8, subtype: u8) -> bool
     ensures { IsTrue result ↔ IsKnown service subtype }
 {
@@ -185,7 +187,7 @@ fn is_known(service: u8, subtype: u8) -> bool
         || (service == SCHEDULE && subtype == SUMMARY)
 }
 
-/// Whether a data field is of a report for the desk.
+/// Returns whether a data field is of a report for the desk.
 fn is_ours(profile: &Profile, field: &[u8]) -> bool
     requires { HasRoom profile.now field.now }
     ensures { IsTrue result ↔ IsOurs profile.now field.now }
@@ -193,7 +195,7 @@ fn is_ours(profile: &Profile, field: &[u8]) -> bool
     pair_in(field, 5) == profile.source && is_known(field[1], field[2])
 }
 
-/// The source data in a data field.
+/// Returns the source data in a data field.
 fn source_data_in<'a>(profile: &Profile, field: &'a [u8]) -> &'a [u8]
     requires { HasRoom profile.now field.now }
     ensures { result.now ≡ source_data_in profile.now field.now }
@@ -214,7 +216,7 @@ fn report_in(profile: &Profile, origin: Identity, field: &[u8]) -> Option<HeardR
     verification_in(origin, field[2], octets)
 }
 
-/// Whether a header is a report's.
+/// Returns whether a header is a report's.
 fn is_report_header(header: &PacketHeader) -> bool
     ensures { IsTrue result ↔ IsReportHeader header.now }
 {
@@ -223,7 +225,7 @@ fn is_report_header(header: &PacketHeader) -> bool
         && header.sequence == SequenceFlags::Unsegmented
 }
 
-/// What a sound packet tells.
+/// Returns what a sound packet tells.
 fn heard_in(profile: &Profile, octets: &[u8], packet: &SpacePacket) -> Result<Heard, ReportFault>
     requires { IsSound profile.now octets.now packet.now.header packet.now.field.now }
     ensures { Judges profile.now octets.now packet.now.header packet.now.field.now result }
@@ -264,6 +266,17 @@ fn judge(profile: &Profile, octets: &[u8], packet: &SpacePacket) -> Result<Heard
     heard_in(profile, octets, packet)
 }
 
+/// Reads a telemetry packet, or names the first fault.
+fn answer_of(profile: &Profile, octets: &[u8]) -> Result<Heard, ReportFault>
+    ensures { ReadsReport profile.now octets.now result }
+{
+    match read_space_packet(octets) {
+        Ok(packet) => judge(profile, octets, &packet),
+        Err(SpaceFault::Length) => Err(ReportFault::Length),
+        Err(SpaceFault::Version) => Err(ReportFault::Version),
+    }
+}
+
 /// Reads a telemetry packet (ECSS-E-ST-70-41C, 7.4.3): a report for the desk, an idle packet, or a packet that is not for the desk. Takes no memory.
 ///
 /// Activities of other sources in a summary are passed over and counted. Octets after the code of a failure report are ignored.
@@ -272,12 +285,11 @@ fn judge(profile: &Profile, octets: &[u8], packet: &SpacePacket) -> Result<Heard
 ///
 /// The first of these that applies: `Length`, `Version`, `Header`, `Length` (too few octets for a report's headers), `Check`,
 /// `Header` (another PUS version), `Data`. An idle packet is told after `Version`, and a packet that is not for the desk before `Data`.
+#[tactic(auto, using(crate::proofs::ReportOneLemmas::reads_back, crate::proofs::ReportOneLemmas::damaged_refused))]
 pub fn read_report(profile: &Profile, octets: &[u8]) -> Result<Heard, ReportFault>
-    ensures { ReadsReport profile.now octets.now result }
+    ensures value { ReadsReport profile.now octets.now result }
+    ensures back { ReportReadsBack profile.now octets.now result }
+    ensures damaged { IsDamaged octets.now → IsNoReport result }
 {
-    match read_space_packet(octets) {
-        Ok(packet) => judge(profile, octets, &packet),
-        Err(SpaceFault::Length) => Err(ReportFault::Length),
-        Err(SpaceFault::Version) => Err(ReportFault::Version),
-    }
+    answer_of(profile, octets)
 }

@@ -1,10 +1,10 @@
 //! Telemetry reports as they are written.
-ghost use Rattle.std.specs.Prelude.{◌≡◌, ◌∷◌, ◌++◌, ◌≤◌, ◌↔◌, All, IfOk, IsTrue, OnOk, length, true};
+ghost use Rattle.std.specs.Prelude.{◌≡◌, ◌++◌, ◌≤◌, ◌↔◌, All, IfOk, IsTrue, OnOk, length, true};
 ghost use Rattle.std.specs.List.{flat_map};
 ghost use Rattle.tc_types.specs.Limits.{most_activities};
 ghost use Rattle.tc_octets.specs.TcFrames.{closed};
 ghost use Rattle.tc_packets.specs.Times.{HasTime};
-ghost use Rattle.tc_packets.specs.Reports.{IsListed, IsReportable, activity_octets, details_of, report_field, report_header, report_of};
+ghost use Rattle.tc_packets.specs.Reports.{IsListed, IsReportable, activity_octets, details_of, report_header, report_of};
 ghost use Rattle.tc_packets.specs.Reports.{secondary_header, service_of, source_data, status_of, subtype_of, summary_data};
 
 use crate::identities::{ActivityName, flies, put_name, put_request_id};
@@ -34,14 +34,14 @@ pub(crate) const SECONDARY: usize = 7;
 /// The octets of a CRC.
 pub(crate) const CRC: usize = 2;
 
-/// Whether a summary can list an activity.
+/// Returns whether a summary can list an activity.
 fn is_listed(profile: &Profile, activity: &ScheduledActivity) -> bool
     ensures { IsTrue result ↔ IsListed profile.now activity.now }
 {
     has_time(profile, activity.time) && flies(activity.identity)
 }
 
-/// Whether a summary can list all these activities.
+/// Returns whether a summary can list all these activities.
 fn are_listed(profile: &Profile, activities: &[ScheduledActivity]) -> bool
     ensures { IsTrue result ↔ All (IsListed profile.now) activities.now }
 {
@@ -50,7 +50,7 @@ fn are_listed(profile: &Profile, activities: &[ScheduledActivity]) -> bool
         .all(|activity| is_listed(profile, activity))
 }
 
-/// Whether a report can tell this: the requests fly (`flies`), and the release times have octets (`has_time`).
+/// Returns whether a report can tell this: the requests fly (`flies`), and the release times have octets (`has_time`).
 pub fn is_reportable(profile: &Profile, told: &Told) -> bool
     ensures { IsTrue result ↔ IsReportable profile.now told.now }
 {

@@ -77,7 +77,7 @@ pub enum SpaceFault {
     Version,
 }
 
-/// The bit of a packet's type.
+/// Returns the bit of a packet's type.
 fn type_bit(kind: PacketType) -> u16
     ensures { result ≡ type_bit kind }
 {
@@ -87,7 +87,7 @@ fn type_bit(kind: PacketType) -> u16
     }
 }
 
-/// The two bits of sequence flags.
+/// Returns the two bits of sequence flags.
 fn sequence_bits(sequence: SequenceFlags) -> u16
     ensures { result ≡ sequence_bits sequence }
 {
@@ -123,7 +123,7 @@ pub fn put_header<A: Allocator + Copy>(
     put_pair(out, (octets - 1) as u16)
 }
 
-/// The octets of a packet (CCSDS 133.0-B, 4.1). Fails if memory is refused.
+/// Returns the octets of a packet (CCSDS 133.0-B, 4.1). Fails if memory is refused.
 pub fn space_packet<A: Allocator + Copy>(
     alloc: A,
     packet: &SpacePacket,
@@ -169,7 +169,7 @@ pub fn put_idle_packet<A: Allocator + Copy>(
     put_idle(out, octets - HEADER)
 }
 
-/// How many octets the packet has that begins with these, by its header; at least six octets are there.
+/// Returns how many octets the packet has that begins with these, by its header; at least six octets are there.
 pub fn whole_length(octets: &[u8]) -> usize
     requires { 6 ≤ length octets.now }
     ensures { result ≡ whole_length_in octets.now }
@@ -177,7 +177,7 @@ pub fn whole_length(octets: &[u8]) -> usize
     usize::from(pair_in(octets, 4)) + FEWEST_PACKET
 }
 
-/// The type that a bit is.
+/// Returns the type that a bit is.
 fn type_in(bit: u16) -> PacketType
     requires { bit ≤ 1 }
     ensures { type_bit result ≡ bit }
@@ -189,7 +189,7 @@ fn type_in(bit: u16) -> PacketType
     }
 }
 
-/// The sequence flags that two bits are.
+/// Returns the sequence flags that two bits are.
 fn sequence_in(bits: u16) -> SequenceFlags
     requires { bits ≤ 3 }
     ensures { sequence_bits result ≡ bits }
@@ -202,7 +202,7 @@ fn sequence_in(bits: u16) -> SequenceFlags
     }
 }
 
-/// The header that these octets begin with, of version 000.
+/// Returns the header that these octets begin with, of version 000.
 fn header_in(octets: &[u8]) -> PacketHeader
     requires long { 6 ≤ length octets.now }
     requires version { version_in octets.now ≡ 0 }
@@ -223,7 +223,8 @@ fn header_in(octets: &[u8]) -> PacketHeader
     }
 }
 
-/// The packet that these octets are (CCSDS 133.0-B, 4.1): all of them, no more and no fewer. Else the first fault that applies. Takes no memory.
+/// Returns the packet that these octets are (CCSDS 133.0-B, 4.1): all of them, no more and no fewer. Else the first fault that applies. Takes no
+/// memory.
 pub fn read_space_packet<'a>(octets: &'a [u8]) -> Result<SpacePacket<'a>, SpaceFault>
     ensures { ReadsPacket octets.now result }
 {

@@ -1,4 +1,4 @@
-//! What the application data of telecommand packets say.
+//! The readers of application data of telecommand packets.
 ghost use Rattle.std.specs.Prelude.{◌≡◌, ◌≤◌, ◌↔◌, IfSome, IsSome, drop, false, length, take, true};
 ghost use Rattle.tc_types.specs.Inserts.{IsInsert};
 ghost use Rattle.std.specs.Option.{MatchOption};
@@ -18,7 +18,7 @@ use crate::times::{read_offset, read_time, time_octets};
 use tc_octets::Profile;
 use tc_types::{Ack, Identity, MOST_INSERTED, Outcome, Service, Subtype};
 
-/// The application data of a plain request for a real spacecraft: all of these octets.
+/// Returns the application data of a plain request for a real spacecraft: all of these octets.
 #[tactic(auto, using(crate::proofs::TaskLemmas::real_none))]
 fn real_parts(octets: &[u8]) -> Option<(ApplicationData, Option<Outcome>)>
     ensures { ReadsParts false octets.now result }
@@ -26,7 +26,7 @@ fn real_parts(octets: &[u8]) -> Option<(ApplicationData, Option<Outcome>)>
     Some((ApplicationData::of(octets)?, None))
 }
 
-/// The application data of a plain request for a rehearsal spacecraft, and its outcome, which stands last.
+/// Returns the application data of a plain request for a rehearsal spacecraft, and its outcome, which stands last.
 #[tactic(auto, using(crate::proofs::TaskLemmas::rehearsal_short, crate::proofs::TaskLemmas::rehearsal_long, crate::proofs::TaskLemmas::rehearsal_none, crate::proofs::TaskLemmas::rehearsal_some))]
 fn rehearsal_parts(octets: &[u8]) -> Option<(ApplicationData, Option<Outcome>)>
     ensures { ReadsParts true octets.now result }
@@ -40,7 +40,7 @@ fn rehearsal_parts(octets: &[u8]) -> Option<(ApplicationData, Option<Outcome>)>
     Some((application, Some(outcome)))
 }
 
-/// The application data of a plain request, and its outcome, if outcomes fly.
+/// Returns the application data of a plain request, and its outcome, if outcomes fly.
 #[tactic(auto, using(crate::proofs::TaskLemmas::parts_chosen))]
 fn parts_in(rehearsal: bool, octets: &[u8]) -> Option<(ApplicationData, Option<Outcome>)>
     ensures { ReadsParts rehearsal octets.now result }
@@ -52,7 +52,7 @@ fn parts_in(rehearsal: bool, octets: &[u8]) -> Option<(ApplicationData, Option<O
     }
 }
 
-/// What a plain request of this service and subtype asks for.
+/// Reads the message of a plain request of this service and subtype.
 #[tactic(auto, using(crate::proofs::TaskLemmas::no_service, crate::proofs::TaskLemmas::no_subtype, crate::proofs::TaskLemmas::no_parts))]
 fn plain_in(profile: &Profile, service: u8, subtype: u8, octets: &[u8]) -> Option<Plain>
     ensures { ReadsPlain profile.now service subtype octets.now result }
@@ -68,7 +68,7 @@ fn plain_in(profile: &Profile, service: u8, subtype: u8, octets: &[u8]) -> Optio
     })
 }
 
-/// The activity of our source that these octets name, alone.
+/// Returns the activity of our source that these octets name, alone.
 #[tactic(auto, using(crate::proofs::TaskLemmas::target_unnamed, crate::proofs::TaskLemmas::target_other))]
 fn target_in(profile: &Profile, octets: &[u8]) -> Option<Identity>
     ensures { ReadsTarget profile.now octets.now result }
@@ -92,7 +92,7 @@ fn plain_request_in(profile: &Profile, octets: &[u8]) -> Option<(Identity, Ack, 
     Some((identity_in(octets), ack_in(octets), plain))
 }
 
-/// The plain request whose packet these octets are: its identity, the reports that it asks for, and what it asks for.
+/// Returns the plain request whose packet these octets are: its identity, the reports that it asks for, and what it asks for.
 #[tactic(auto, using(crate::proofs::ActivityLemmas::request_headless))]
 fn request_in(profile: &Profile, octets: &[u8]) -> Option<(Identity, Ack, Plain)>
     ensures { ReadsRequest profile.now octets.now result }
@@ -103,7 +103,7 @@ fn request_in(profile: &Profile, octets: &[u8]) -> Option<(Identity, Ack, Plain)
     }
 }
 
-/// The octets of a time at the front.
+/// Returns the octets of a time at the front.
 fn time_before<'a>(profile: &Profile, octets: &'a [u8]) -> &'a [u8]
     requires { time_length profile.now ≤ length octets.now }
     ensures { result.now ≡ take (time_length profile.now) octets.now }
@@ -111,7 +111,7 @@ fn time_before<'a>(profile: &Profile, octets: &'a [u8]) -> &'a [u8]
     octets_before(octets, time_octets(profile))
 }
 
-/// The octets after a time at the front.
+/// Returns the octets after a time at the front.
 fn after_time<'a>(profile: &Profile, octets: &'a [u8]) -> &'a [u8]
     requires { time_length profile.now ≤ length octets.now }
     ensures { result.now ≡ drop (time_length profile.now) octets.now }
@@ -119,7 +119,7 @@ fn after_time<'a>(profile: &Profile, octets: &'a [u8]) -> &'a [u8]
     octets_from(octets, time_octets(profile))
 }
 
-/// The packet after the time at the front of octets, as long as it says that it is.
+/// Returns the packet after the time at the front of octets, as long as it says that it is.
 #[tactic(auto, using(crate::proofs::ActivityLemmas::begins_short, crate::proofs::ActivityLemmas::begins_cut))]
 fn packet_in<'a>(profile: &Profile, octets: &'a [u8]) -> Option<&'a [u8]>
     ensures { MatchOption result (BeginsWithNone profile.now octets.now) (λ packet. BeginsWithPacket profile.now octets.now packet.now) }
@@ -135,7 +135,7 @@ fn packet_in<'a>(profile: &Profile, octets: &'a [u8]) -> Option<&'a [u8]>
     Some(octets_before(after, length))
 }
 
-/// The activity that octets begin with, and how many octets it takes.
+/// Returns the activity that octets begin with, and how many octets it takes.
 #[tactic(auto, using(crate::proofs::ActivityLemmas::activity_no_packet, crate::proofs::ActivityLemmas::activity_no_time))]
 fn activity_in(profile: &Profile, octets: &[u8]) -> Option<(FlightActivity, usize)>
     ensures { ReadsActivity profile.now octets.now result }
@@ -152,7 +152,7 @@ fn activity_in(profile: &Profile, octets: &[u8]) -> Option<(FlightActivity, usiz
     Some((activity, time_octets(profile) + packet.len()))
 }
 
-/// The list of the first so many of these places.
+/// Returns the list of the first `number` of these places.
 fn gathered(places: &[FlightActivity], number: usize) -> Option<FlightActivities>
     requires { number ≤ length places.now }
     ensures found { IsSome result ↔ IsInsert (take number places.now) }
@@ -161,7 +161,7 @@ fn gathered(places: &[FlightActivity], number: usize) -> Option<FlightActivities
     FlightActivities::of(&places[..number])
 }
 
-/// So many activities, which are all of these octets.
+/// Reads octets as so many activities and no more.
 #[tactic(auto, using(crate::proofs::ActivityLemmas::read_first, crate::proofs::ActivityLemmas::first_none, crate::proofs::ActivityLemmas::left_none))]
 fn activities_in(profile: &Profile, number: usize, octets: &[u8]) -> Option<FlightActivities>
     requires least { 1 ≤ number }
@@ -186,7 +186,7 @@ fn activities_in(profile: &Profile, number: usize, octets: &[u8]) -> Option<Flig
     gathered(&places, number)
 }
 
-/// What the application data of an insert are.
+/// Reads the application data of an insert.
 #[tactic(auto, using(crate::proofs::TaskLemmas::insert_none))]
 fn insert_in(profile: &Profile, octets: &[u8]) -> Option<FlightTask>
     ensures { ReadsTask profile.now 11 4 octets.now result }
@@ -199,7 +199,7 @@ fn insert_in(profile: &Profile, octets: &[u8]) -> Option<FlightTask>
     Some(FlightTask::InsertActivities(activities))
 }
 
-/// What the application data of a shift of one activity are.
+/// Reads the application data of a shift of one activity.
 #[tactic(auto, using(crate::proofs::TaskLemmas::shift_none, crate::proofs::TaskLemmas::shift_short))]
 fn shift_in(profile: &Profile, octets: &[u8]) -> Option<FlightTask>
     ensures { ReadsTask profile.now 11 7 octets.now result }
@@ -212,7 +212,7 @@ fn shift_in(profile: &Profile, octets: &[u8]) -> Option<FlightTask>
     Some(FlightTask::ShiftActivity { target, offset })
 }
 
-/// What the application data of a shift of all activities are.
+/// Reads the application data of a shift of all activities.
 #[tactic(auto, using(crate::proofs::TaskLemmas::shift_all_none))]
 fn shift_all_in(profile: &Profile, octets: &[u8]) -> Option<FlightTask>
     ensures { ReadsTask profile.now 11 15 octets.now result }
@@ -224,7 +224,7 @@ fn shift_all_in(profile: &Profile, octets: &[u8]) -> Option<FlightTask>
     Some(FlightTask::ShiftAll { offset })
 }
 
-/// What the application data of a deletion are.
+/// Reads the application data of a deletion.
 #[tactic(auto, using(crate::proofs::TaskLemmas::delete_none))]
 fn delete_in(profile: &Profile, octets: &[u8]) -> Option<FlightTask>
     ensures { ReadsTask profile.now 11 5 octets.now result }
@@ -233,7 +233,7 @@ fn delete_in(profile: &Profile, octets: &[u8]) -> Option<FlightTask>
     Some(FlightTask::DeleteActivity { target })
 }
 
-/// A command of the schedule without application data.
+/// Reads a command of the schedule without application data.
 #[tactic(auto, using(crate::proofs::TaskLemmas::bare_more, crate::proofs::TaskLemmas::bare_other))]
 fn bare_in(profile: &Profile, subtype: u8, octets: &[u8]) -> Option<FlightTask>
     requires { IsBare subtype }
@@ -251,7 +251,7 @@ fn bare_in(profile: &Profile, subtype: u8, octets: &[u8]) -> Option<FlightTask>
     }
 }
 
-/// What the application data of this service and subtype ask for.
+/// Reads the application data of this service and subtype.
 #[tactic(auto, using(crate::proofs::TaskLemmas::plain_none))]
 pub(crate) fn task_in(
     profile: &Profile,

@@ -1,7 +1,9 @@
-//! What telecommand packets say.
-ghost use Rattle.std.specs.Prelude.{◌≡◌, ◌≤◌, ◌↔◌, IsTrue, length, slice_index, ◌%◌, ◌^◌};
+//! The reader of telecommand packets.
+ghost use Rattle.std.specs.Prelude.{◌≡◌, ◌≤◌, ◌↔◌, IfOk, IsErr, IsTrue, false, length, slice_index, ◌%◌, ◌^◌};
 ghost use Rattle.tc_octets.specs.Bits.{pair_at};
-ghost use Rattle.tc_packets.specs.Telecommands.{ack_bits};
+ghost use Rattle.tc_octets.specs.CrcLaws.{IsDamaged};
+ghost use Rattle.tc_packets.specs.TelecommandLaws.{ReadsBack};
+ghost use Rattle.tc_packets.specs.Telecommands.{ack_bits, telecommand_of};
 ghost use Rattle.tc_packets.specs.TelecommandReaders.{HasHeader, HasType, HeadersSay, IsChecked, IsLong, Names, Passes, Reads, Rejects, data_in};
 ghost use Rattle.tc_packets.specs.TelecommandReaders.{rejection_code};
 
@@ -41,14 +43,14 @@ pub enum PacketFault {
     Data,
 }
 
-/// Whether there are as many octets as a packet has, and as its length says.
+/// Returns whether there are as many octets as a packet has, and as its length says.
 fn is_long(octets: &[u8]) -> bool
     ensures { IsTrue result ↔ IsLong octets.now }
 {
     octets.len() >= FEWEST && whole_length(octets) == octets.len()
 }
 
-/// Whether the check is right.
+/// Returns whether the check is right.
 fn is_checked(octets: &[u8]) -> bool
     requires { 13 ≤ length octets.now }
     ensures { IsTrue result ↔ IsChecked octets.now }
@@ -57,7 +59,7 @@ fn is_checked(octets: &[u8]) -> bool
     pair_in(octets, end) == crc(&octets[..end])
 }
 
-/// Whether the headers are those of a request that flies to this spacecraft.
+/// Returns whether the headers are those of a request that flies to this spacecraft.
 fn has_header(profile: &Profile, octets: &[u8]) -> bool
     requires { 13 ≤ length octets.now }
     ensures { IsTrue result ↔ HasHeader profile.now octets.now }
@@ -70,7 +72,7 @@ fn has_header(profile: &Profile, octets: &[u8]) -> bool
         && pair_in(octets, 9) == profile.source
 }
 
-/// Whether the service and the subtype are of this link.
+/// Returns whether the service and the subtype are of this link.
 fn has_type(octets: &[u8]) -> bool
     requires { 13 ≤ length octets.now }
     ensures { IsTrue result ↔ HasType octets.now }
@@ -80,7 +82,7 @@ fn has_type(octets: &[u8]) -> bool
         && (octets[7] != SCHEDULE || SCHEDULE_SUBTYPES.contains(&octets[8]))
 }
 
-/// What the headers are refused for.
+/// Returns the first fault of the headers.
 pub(crate) fn header_fault(profile: &Profile, octets: &[u8]) -> Option<PacketFault>
     ensures { HeadersSay profile.now octets.now result }
 {
@@ -99,7 +101,7 @@ pub(crate) fn header_fault(profile: &Profile, octets: &[u8]) -> Option<PacketFau
     None
 }
 
-/// The identity in a header.
+/// Returns the identity in a header.
 pub(crate) fn identity_in(octets: &[u8]) -> Identity
     requires { 13 ≤ length octets.now }
     ensures apid { result.apid ≡ pair_at octets.now 0 % 2 ^ 11 }
@@ -111,7 +113,7 @@ pub(crate) fn identity_in(octets: &[u8]) -> Identity
     }
 }
 
-/// The acknowledgement flags in a secondary header.
+/// Returns the acknowledgement flags in a secondary header.
 pub(crate) fn ack_in(octets: &[u8]) -> Ack
     requires { 13 ≤ length octets.now }
     ensures { ack_bits result ≡ slice_index octets.now 6 % 2 ^ 4 }
@@ -125,7 +127,7 @@ pub(crate) fn ack_in(octets: &[u8]) -> Ack
     }
 }
 
-/// The application data in a packet.
+/// Returns the application data in a packet.
 pub(crate) fn data_in(octets: &[u8]) -> &[u8]
     requires { 13 ≤ length octets.now }
     ensures { result.now ≡ data_in octets.now }
@@ -133,7 +135,7 @@ pub(crate) fn data_in(octets: &[u8]) -> &[u8]
     &octets[HEADERS..octets.len() - CHECK]
 }
 
-/// The request in a packet whose headers nothing is said against.
+/// Returns the request in a packet whose headers pass.
 #[tactic(auto, using(crate::proofs::TaskLemmas::read_err))]
 fn flight_in(profile: &Profile, octets: &[u8]) -> Result<Flight, PacketFault>
     requires { Passes profile.now octets.now }
@@ -149,10 +151,9 @@ fn flight_in(profile: &Profile, octets: &[u8]) -> Result<Flight, PacketFault>
     }
 }
 
-/// The request whose packet these octets are (ECSS-E-ST-70-41C, 7.4.4): all of them, no more and no fewer. Fractions of a second are ignored.
-/// Else the first fault that applies. Takes no memory.
+/// Reads a request, or names the first fault.
 #[tactic(auto, using(crate::proofs::TaskLemmas::header_err))]
-pub fn read_telecommand(profile: &Profile, octets: &[u8]) -> Result<Flight, PacketFault>
+fn answer_of(profile: &Profile, octets: &[u8]) -> Result<Flight, PacketFault>
     ensures { Reads profile.now octets.now result }
 {
     match header_fault(profile, octets) {
@@ -161,7 +162,19 @@ pub fn read_telecommand(profile: &Profile, octets: &[u8]) -> Result<Flight, Pack
     }
 }
 
-/// The code that a rehearsal spacecraft reports for a packet that it refused, in TM[1,2] (this project's own).
+/// Reads the request whose packet these octets are (ECSS-E-ST-70-41C, 7.4.4): all of them, no more and no fewer. Fractions of a second are ignored.
+/// Else returns the first fault that applies. Takes no memory.
+#[tactic(auto, using(crate::proofs::WrittenLemmas::reads_back, crate::proofs::WrittenLemmas::exactly_read, crate::proofs::WrittenLemmas::damaged_refused))]
+pub fn read_telecommand(profile: &Profile, octets: &[u8]) -> Result<Flight, PacketFault>
+    ensures value { Reads profile.now octets.now result }
+    ensures back { ReadsBack profile.now octets.now result }
+    ensures exact { profile.now.fine ≡ false → IfOk result (λ flight. octets.now ≡ telecommand_of profile.now flight) }
+    ensures damaged { IsDamaged octets.now → IsErr result }
+{
+    answer_of(profile, octets)
+}
+
+/// Returns the code that a rehearsal spacecraft reports for a packet that it refused, in TM[1,2] (this project's own).
 pub fn rejection_code(fault: PacketFault) -> u8
     ensures { result ≡ rejection_code fault }
 {
@@ -174,7 +187,7 @@ pub fn rejection_code(fault: PacketFault) -> u8
     }
 }
 
-/// The request that a rehearsal spacecraft reports on if it refused these octets: the one whose request id they begin with, if there is one.
+/// Returns the request that a rehearsal spacecraft reports on if it refused these octets: the one whose request id they begin with, if there is one.
 pub fn named_in(octets: &[u8]) -> Option<Identity>
     ensures { Names octets.now result }
 {
@@ -184,7 +197,7 @@ pub fn named_in(octets: &[u8]) -> Option<Identity>
     read_request_id(&octets[..REQUEST_ID])
 }
 
-/// What a rehearsal spacecraft reports on a packet that it refused: the request and the code; `None` if it cannot name the request.
+/// Returns the request and the code that a rehearsal spacecraft reports on a packet that it refused; `None` if it cannot name the request.
 pub fn rejection(octets: &[u8], fault: PacketFault) -> Option<(Identity, u8)>
     ensures { Rejects octets.now fault result }
 {

@@ -29,7 +29,7 @@ const PUS_VERSION: u8 = 0x20;
 /// The service of the schedule on board.
 pub(crate) const SCHEDULE: u8 = 11;
 
-/// The acknowledgement flags of a request (ECSS-E-ST-70-41C, 7.4.4.1): acceptance is the lowest bit.
+/// Returns the acknowledgement flags of a request (ECSS-E-ST-70-41C, 7.4.4.1): acceptance is the lowest bit.
 fn ack_bits(ack: Ack) -> u8
     ensures value { result ≡ ack_bits ack }
     ensures small { result < 2 ^ 4 }
@@ -40,7 +40,7 @@ fn ack_bits(ack: Ack) -> u8
         + u8::from(ack.acceptance)
 }
 
-/// The service type and the message subtype of what a request asks for.
+/// Returns the service type and the message subtype of what a request asks for.
 fn message_type(task: &FlightTask) -> (u8, u8)
     ensures { result ≡ (service_of task.now, subtype_of task.now) }
 {
@@ -96,7 +96,7 @@ fn put_headers<A: Allocator + Copy>(
     put_secondary_header(out, profile, ack, message_type)
 }
 
-/// A packet with such application data, closed by its check.
+/// Returns a packet with such application data, closed by its check.
 fn packet<A: Allocator + Copy>(
     alloc: A,
     profile: &Profile,
@@ -142,7 +142,7 @@ fn put_plain<A: Allocator + Copy>(out: &mut Vec<u8, A>, plain: &Plain) -> Result
     put_outcome_part(out, plain.outcome)
 }
 
-/// The packet of an activity's request, with a check of its own.
+/// Returns the packet of an activity's request, with a check of its own.
 #[tactic(auto, using(crate::proofs::SizeLemmas::plain_small))]
 fn activity_packet<A: Allocator + Copy>(
     alloc: A,
@@ -243,9 +243,9 @@ fn put_data<A: Allocator + Copy>(
     }
 }
 
-/// The telecommand packet of a request that fits (ECSS-E-ST-70-41C, 7.4.4), at most 958 octets. Fails if memory is refused.
+/// Returns the packet of a request.
 #[tactic(auto, using(crate::proofs::SizeLemmas::data_small))]
-pub fn telecommand<A: Allocator + Copy>(
+fn request_packet<A: Allocator + Copy>(
     alloc: A,
     profile: &Profile,
     flight: &Flight,
@@ -262,4 +262,19 @@ pub fn telecommand<A: Allocator + Copy>(
         message_type(&flight.task),
         &application,
     )
+}
+
+/// Returns the telecommand packet of a request that fits (ECSS-E-ST-70-41C, 7.4.4), at most 958 octets. Fails if memory is refused.
+#[tactic(auto, using(crate::proofs::SizeLemmas::telecommand_short))]
+pub fn telecommand<A: Allocator + Copy>(
+    alloc: A,
+    profile: &Profile,
+    flight: &Flight,
+) -> Result<Vec<u8, A>, AllocError>
+    requires { Fits profile.now flight.now }
+    ensures value { IfOk result (λ octets. octets.items ≡ telecommand_of profile.now flight.now) }
+    ensures short { IfOk result (λ octets. length octets.items ≤ 958) }
+{
+    let octets = request_packet(alloc, profile, flight)?;
+    Ok(octets)
 }

@@ -12,14 +12,14 @@ use tc_types::{Moment, Offset};
 /// The most seconds that four octets have.
 const MOST_SECONDS: i64 = 0xffff_ffff;
 
-/// How many octets a time or an offset has: 4, and 2 of fraction if times are fine.
+/// Returns how many octets a time or an offset has: 4, and 2 of fraction if times are fine.
 pub fn time_octets(profile: &Profile) -> usize
     ensures { result ≡ time_length profile.now }
 {
     if profile.fine { 6 } else { 4 }
 }
 
-/// Whether a moment has octets: it is not before the epoch, nor too long after it (CCSDS 301.0-B).
+/// Returns whether a moment has octets: it is not before the epoch, nor too long after it (CCSDS 301.0-B).
 pub fn has_time(profile: &Profile, moment: Moment) -> bool
     ensures { IsTrue result ↔ HasTime profile.now.epoch moment }
 {
@@ -55,7 +55,7 @@ pub fn put_time<A: Allocator + Copy>(
     put_fraction(out, profile)
 }
 
-/// The moment that a time's octets are. A fraction is ignored. `None` if it is none of Unix time 0 to 4,102,444,799.
+/// Returns the moment that a time's octets are. A fraction is ignored. `None` if it is none of Unix time 0 to 4,102,444,799.
 pub fn read_time(profile: &Profile, octets: &[u8]) -> Option<Moment>
     requires { length octets.now ≡ time_length profile.now }
     ensures { ReadsTime profile.now octets.now result }
@@ -68,14 +68,14 @@ pub fn read_time(profile: &Profile, octets: &[u8]) -> Option<Moment>
     Moment::new(moment as u32)
 }
 
-/// Whether an offset has octets: -2,147,483,648 to 2,147,483,647 seconds.
+/// Returns whether an offset has octets: -2,147,483,648 to 2,147,483,647 seconds.
 pub fn fits_offset(offset: Offset) -> bool
     ensures { IsTrue result ↔ FitsOffset offset }
 {
     offset.get() >= -0x8000_0000 && offset.get() <= 0x7fff_ffff
 }
 
-/// The 32 bits of an offset, in two's complement.
+/// Returns the 32 bits of an offset, in two's complement.
 fn complement(offset: Offset) -> u32
     requires { FitsOffset offset }
     ensures { result ≡ complement offset }
@@ -101,7 +101,7 @@ pub fn put_offset<A: Allocator + Copy>(
     put_fraction(out, profile)
 }
 
-/// The offset that these octets are. A fraction is ignored. All octets are one.
+/// Returns the offset that these octets are. A fraction is ignored. All octets are one.
 pub fn read_offset(profile: &Profile, octets: &[u8]) -> Option<Offset>
     requires { length octets.now ≡ time_length profile.now }
     ensures { ReadsOffset profile.now octets.now result }
@@ -114,7 +114,7 @@ pub fn read_offset(profile: &Profile, octets: &[u8]) -> Option<Offset>
     }
 }
 
-/// The earliest moment that has octets: the later of Unix time 0 and the epoch.
+/// Returns the earliest moment that has octets: the later of Unix time 0 and the epoch.
 pub fn first_on_board(profile: &Profile) -> Moment
     ensures { result ≡ first_on_board profile.now.epoch }
 {
@@ -124,7 +124,7 @@ pub fn first_on_board(profile: &Profile) -> Moment
     Moment::new(profile.epoch as u32).unwrap()
 }
 
-/// The latest moment that has octets: the earlier of Unix time 4,102,444,799 and the epoch and 2 ^ 32 - 1 seconds.
+/// Returns the latest moment that has octets: the earlier of Unix time 4,102,444,799 and the epoch and 2 ^ 32 - 1 seconds.
 pub fn last_on_board(profile: &Profile) -> Moment
     ensures { result ≡ last_on_board profile.now.epoch }
 {

@@ -4,6 +4,7 @@ ghost use Rattle.std.specs.List.{concat};
 ghost use Rattle.tc_octets.specs.TmFrames.{tm_frame_of};
 ghost use Rattle.tc_packets.specs.Carriers.{carriers, data_length, fill_of, filled, frame_after, frames_of, idle_frame, later};
 ghost use Rattle.tc_packets.specs.Carriers.{octets_of, pointer_in, starts};
+ghost use Rattle.tc_packets.specs.LossLaws.{ComesOver};
 
 use crate::space_packets::{FEWEST_PACKET, put_idle_packet};
 use std::alloc::{AllocError, Allocator};
@@ -27,7 +28,7 @@ const NO_START: u16 = 2047;
 /// The data field status of a frame without its pointer: no flag, and the segment length identifier 11.
 const UNSEGMENTED: u16 = 0x1800;
 
-/// The octets of the data field of a frame with a control word.
+/// Returns the octets of the data field of a frame with a control word.
 fn data_length(profile: &Profile) -> usize
     ensures value { result ≡ data_length profile.now }
     ensures least { 20 ≤ result }
@@ -108,7 +109,7 @@ fn join<A: Allocator + Copy + Drop>(
 }
 
 #[tactic(auto, using(crate::proofs::SenderLemmas::here, crate::proofs::SenderLemmas::before, crate::proofs::SenderLemmas::after))]
-/// The first header pointer of the data field of so many octets that begins at a place.
+/// Returns the first header pointer of the data field of so many octets that begins at a place.
 fn pointer_in(places: &[usize], begin: usize, size: usize) -> u16
     requires field { size ≤ 2048 }
     requires room { begin + size < 2 ^ 63 }
@@ -123,7 +124,7 @@ fn pointer_in(places: &[usize], begin: usize, size: usize) -> u16
     NO_START
 }
 
-/// A frame count after so many frames.
+/// Returns a frame count after so many frames.
 fn plus(count: u8, frames: usize) -> u8
     requires { frames < 2 ^ 63 }
     ensures { result ≡ (count + frames) % 2 ^ 8 }
@@ -140,7 +141,7 @@ pub struct TmSender {
     pub channel_count: u8,
 }
 
-/// What each frame of a list has: how the link is set, the sender's counts before it, and the control word.
+/// The common parts of the frames of a list: the profile of the link, the sender's counts before it, and the control word.
 #[derive(Clone, Copy)]
 struct Sending<'a> {
     profile: &'a Profile,
@@ -150,7 +151,7 @@ struct Sending<'a> {
 }
 
 impl Sending<'_> {
-    /// The frame after so many others.
+    /// Returns the frame after so many others.
     fn frame<A: Allocator + Copy + Drop>(
         &self,
         alloc: A,
@@ -175,7 +176,7 @@ impl Sending<'_> {
         tm_frame(alloc, self.profile, &frame)
     }
 
-    /// A frame of idle data.
+    /// Returns a frame of idle data.
     fn idle<A: Allocator + Copy + Drop>(&self, alloc: A) -> Result<Vec<u8, A>, AllocError>
         ensures { IfOk result (λ frame. octets_of frame
             ≡ tm_frame_of self.now.profile.now (idle_frame self.now.profile.now self.now.sender self.now.word)) }
@@ -185,7 +186,7 @@ impl Sending<'_> {
         self.frame(alloc, 0, IDLE_DATA, &content)
     }
 
-    /// The frames that joined packets fill.
+    /// Returns the frames that joined packets fill.
     #[tactic(auto, using(crate::proofs::SenderLemmas::turn_fits))]
     fn carriers<A: Allocator + Copy + Drop>(
         &self,
@@ -208,7 +209,7 @@ impl Sending<'_> {
         Ok(frames)
     }
 
-    /// The frames of these packets.
+    /// Returns the frames of these packets.
     fn frames<A: Allocator + Copy + Drop>(
         &self,
         alloc: A,
@@ -231,8 +232,11 @@ impl Sending<'_> {
 }
 
 impl TmSender {
-    /// The frames that carry these packets, in order, each with this control word. An idle packet comes after them if they do not fill the last
-    /// frame, and if there are none it is one frame of idle data. Fails if memory is refused: both counts are then as they were.
+    /// Returns the frames that carry these packets, in order, each with this control word. An idle packet comes after them if they do not fill the
+    /// last frame, and if there are none it is one frame of idle data. Fails if memory is refused: both counts are then as they were.
+    ///
+    /// A receiver of the frames gives the packets again. If whole frames are lost, it gives those packets whose octets all came: the clause `law`.
+    #[tactic(auto, using(crate::proofs::LossLemmas::comes_over))]
     pub fn send<A: Allocator + Copy + Drop>(
         &mut self,
         alloc: A,
@@ -244,6 +248,7 @@ impl TmSender {
             ≡ map (λ frame. tm_frame_of profile.now frame) (frames_of profile.now self.old word (map octets_of packets.now))) }
         ensures counts { IfOk result (λ frames. self.new ≡ later self.old (length frames.items)) }
         ensures refused { OnErr result (self.new ≡ self.old) }
+        ensures law { ComesOver profile.now self.old word (map octets_of packets.now) }
     {
         let sending = Sending {
             profile,

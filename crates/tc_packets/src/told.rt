@@ -52,7 +52,7 @@ impl ScheduledActivities {
         }
     }
 
-    /// Whether the list has fewer than 64 activities.
+    /// Returns whether the list has fewer than 64 activities.
     pub fn has_room(&self) -> bool
         ensures { IsTrue result ↔ (length self.now < most_activities) }
     {
@@ -86,7 +86,7 @@ pub struct ScheduleSummary {
     pub activities: ScheduledActivities,
 }
 
-/// What a telemetry report tells.
+/// The content of a telemetry report.
 #[derive(Debug, Drop)]
 pub enum Told {
     /// TM[1,1] to TM[1,8]: how a request fares (ECSS-E-ST-70-41C, 8.1.2).
@@ -105,13 +105,13 @@ pub enum Told {
 pub struct HeardReport {
     /// The application process that reports, and the sequence count of its packet.
     pub origin: Identity,
-    /// What it tells.
+    /// Its content.
     pub told: Told,
     /// How many activities of other sources were passed over, 0 to 64.
     pub passed: u8,
 }
 
-/// What a telemetry packet was read as.
+/// A telemetry packet as it was read.
 #[derive(Debug, Drop)]
 pub enum Heard {
     /// A report for the desk.

@@ -9,7 +9,7 @@ use crate::telecommands::telecommand;
 use std::alloc::{AllocError, Allocator};
 use tc_octets::{Candidate, Profile, TcFault, TcFrame, cltu, read_tc_frame, tc_frame};
 
-/// What comes up in a CLTU.
+/// The content of a CLTU.
 #[derive(Clone, Copy, Debug)]
 pub enum Upward {
     /// A request, in a frame of type AD.
@@ -39,7 +39,7 @@ pub enum UpwardFault {
     Packet(PacketFault),
 }
 
-/// The transfer frame of type AD of a request that fits, with this N(S) (CCSDS 232.0-B, 4.1), at most 966 octets. Fails if memory is refused.
+/// Returns the transfer frame of type AD of a request that fits, with this N(S) (CCSDS 232.0-B, 4.1), at most 966 octets. Fails if memory is refused.
 #[tactic(auto, using(crate::proofs::UplinkLemmas::may_carry))]
 pub fn request_frame<A: Allocator + Copy>(
     alloc: A,
@@ -58,9 +58,9 @@ pub fn request_frame<A: Allocator + Copy>(
     tc_frame(alloc, profile, &frame)
 }
 
-/// The CLTU of a request that fits, in a frame of type AD with this N(S) (CCSDS 232.0-B, 231.0-B). Fails if memory is refused.
+/// Returns the CLTU of a request that fits, in a frame of type AD with this N(S) (CCSDS 232.0-B, 231.0-B). Fails if memory is refused.
 ///
-/// Whoever receives the octets and undoes the layers has the request again: the clause `law`.
+/// A receiver of the octets that undoes the layers has the request again: the clause `law`.
 #[tactic(auto, using(crate::proofs::UplinkLemmas::comes_up))]
 pub fn request_cltu<A: Allocator + Copy>(
     alloc: A,
@@ -77,7 +77,7 @@ pub fn request_cltu<A: Allocator + Copy>(
     Ok(octets)
 }
 
-/// What the packet in a frame of type AD with this N(S) says.
+/// Reads the packet in a frame of type AD with this N(S).
 fn request_in(profile: &Profile, ns: u8, packet: &[u8]) -> Result<Upward, UpwardFault>
     ensures { ReadsPacketOf profile.now ns packet.now result }
 {
@@ -87,7 +87,7 @@ fn request_in(profile: &Profile, ns: u8, packet: &[u8]) -> Result<Upward, Upward
     }
 }
 
-/// What the octets of a frame say, down to the request in it. Takes no memory.
+/// Reads the octets of a frame, down to the request in it. Takes no memory.
 #[tactic(auto, using(crate::proofs::UplinkLemmas::from_packet))]
 pub fn read_upward(profile: &Profile, octets: &[u8]) -> Result<Upward, UpwardFault>
     ensures { ReadsUpward profile.now octets.now result }

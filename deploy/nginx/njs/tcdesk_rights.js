@@ -1,6 +1,6 @@
 // What a role may do. The map $tcdesk_roles has the roles of who logged in, parted by commas; a login that it does not name may only look.
 
-// The acts and questions of the desk by their first words. README.md has them as a table, and docs/OPERATORS.md says what each does.
+// The acts and questions of the desk by their first words. README.md has them as a table, and docs/manual/ (acts.md, questions.md) says what each does.
 const VERBS = {
     look: ['places', 'history', 'request', 'link', 'schedule', 'log', 'report', 'waiting', 'urgent', 'moves', 'standing', 'steps'],
     enter: ['enter', 'withdraw', 'stack', 'procedure'],

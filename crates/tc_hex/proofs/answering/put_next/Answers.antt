@@ -1,4 +1,4 @@
-use Rattle.std.proofs.Common.{◌≡◌, ◌∙◌, List, ℕ, Bool}
+use Rattle.std.proofs.Common.{◌≡◌, ◌∙◌}
 use Rattle.tc_hex.specs.Answers.{Answers, separator, without_end}
 use Rattle.tc_hex.proofs.AnswerLemmas.{put_apart}
 use Rattle.tc_hex.proofs.answering.put_next.Goals as goal
