@@ -11,7 +11,8 @@ use Rattle.tc_world.specs.EitherLink.{either}
 use Rattle.tc_desk.specs.Promise.{KeepsPromise}
 use Rattle.tc_front.specs.Front.{Asked}
 use Rattle.tc_room.specs.Joined.{Standing, desk_in}
-use Rattle.tc_api.specs.Each.{Dealt, Deals, DealsAll, Grows, ServesEach}
+use Rattle.tc_front.specs.Traffic.{Dealt, Grows}
+use Rattle.tc_api.specs.Each.{Deals, DealsAll, ServesEach}
 use Rattle.tc_api.specs.Kept.{ServesAll}
 use Rattle.tc_api.proofs.KeptLemmas.{all_keep}
 use Rattle.tc_api.proofs.OnceLemmas.{calls_once}

@@ -4,6 +4,7 @@ use Rattle.sqlite_trees.specs.declared.store.Store.{Ghosts}
 use Rattle.tc_types.specs.declared.refusals.Refusal.{Refusal}
 use Rattle.tc_types.specs.Counts.{no_counts}
 use Rattle.tc_front.specs.Front.{Asked}
+use Rattle.tc_front.specs.Traffic.{Dealt, Grows}
 use Rattle.tc_front.specs.Write.{Stream}
 use Rattle.tc_store.specs.Ledgers.{KeptAnswer}
 use Rattle.tc_room.specs.Joined.{HoldsBook, Standing}
@@ -11,25 +12,6 @@ use Rattle.tc_room.specs.declared.callers.Caller.{Caller}
 use Rattle.tc_api.specs.Exchange.{Exchanges}
 use Rattle.tc_api.specs.Kept.{Called, IsDoneOnce, KeepsRoom, KeepsTables, ServesAll, ServesOne}
 use Rattle.tc_api.specs.Serving.{Outcome}
-
--- what was told of a request with this text: all that was written of its response, why that is not whole, if it is not,
--- and whether the desk has stopped
-pub record Dealt : Type 0 where
-  pub text : List ℕ
-  pub result : Result (Unit {0}) Refusal
-  pub response : List ℕ
-  pub stopped : Bool
-
--- a list grows by these, where it is known
-abbrev pub Grows : {T : Type 0} → Option (List T) → Option (List T) → List T → Type 0
-Grows None new more = ⊤
-Grows (Some all) None more = ⊥
-Grows (Some all) (Some after) more = after ≡ all ++ more
-
--- the text that came, if one did
-abbrev pub came_in : Option (List ℕ) → List (List ℕ)
-came_in None = []
-came_in (Some text) = text ∷ []
 
 -- One exchange over the text of a request, by a reader and a writer that were not used before, of which this was told. It is a step of `ServesAll`.
 -- It keeps the tables as `serve_one` says of it: a room that had stopped stays as it was.

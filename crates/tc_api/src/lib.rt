@@ -12,5 +12,5 @@ mod responses;
 mod serving;
 mod walls;
 
-pub use each::{Traffic, serve_each};
+pub use each::serve_each;
 pub use exchange::serve_one;

@@ -25,8 +25,6 @@ ghost use Rattle.std.specs.Prelude.{⊤};
 mod faults;
 mod looping;
 mod octets;
-mod peers;
-mod server;
 mod serving;
 
 use faults::{

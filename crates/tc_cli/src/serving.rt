@@ -2,7 +2,6 @@
 ghost use Rattle.std.specs.Prelude.{◌≡◌};
 ghost use Rattle.tc_cli.specs.Closing.{after_closing};
 
-use crate::server::{End, Server};
 use mio::net::TcpListener;
 use sqlite::Connection;
 use sqlite_disk::Wary;
@@ -10,9 +9,11 @@ use sqlite_std_file::FileFrom;
 use sqlite_store::FileStore;
 use std::io;
 use std::net::{Ipv4Addr, SocketAddr};
+use tc_api::serve_each;
 use tc_closed::ScriptFault;
 use tc_front::Door;
 use tc_host::{Because, Unusable, of_tables, open_desk, opening_fault, tell_opening};
+use tc_peers::{End, Server};
 use tc_run::{Opening, latest_moment, open_told};
 use tc_types::Counted;
 use tc_words::Service;
@@ -101,8 +102,8 @@ fn serve_by(
             let port = service.port;
             tell_opening(rt, opening.moment, latest_moment(&room));
             let _ = eprintln!(rt; "tcdesk: listening on 127.0.0.1:{port}");
-            let end = server.serve(door, opening.moment, &mut room);
-            closed(room.into_connection(), ended(rt, service, end))
+            serve_each(rt.alloc(), door, opening.moment, &mut server, &mut room);
+            closed(room.into_connection(), ended(rt, service, server.ended()))
         }
         Err(left) => closed(left.store, Err(ServiceFault::from(left.fault))),
     }

@@ -9,3 +9,4 @@ pub mod Write
 pub mod Lines
 pub mod Paths
 pub mod Routes
+pub mod Traffic

@@ -20,6 +20,7 @@ mod questions;
 mod queue;
 mod read;
 mod routes;
+mod traffic;
 mod watch;
 mod write;
 
@@ -32,4 +33,5 @@ pub use paths::{Path, Post, Question};
 pub use queue::{Queue, Whole};
 pub use read::read_front;
 pub use routes::Routes;
+pub use traffic::Traffic;
 pub use write::{Unwritten, write_whole};

@@ -6,14 +6,11 @@ use crate::peers::{Peer, Stage};
 use mio::net::TcpListener;
 use mio::unix::SourceFd;
 use mio::{Events, Interest, Poll, Token};
-use sqlite::Alter;
 use std::alloc::Global;
 use std::io::{self, Read};
 use std::time::{Duration, Instant};
-use tc_api::{Traffic, serve_each};
-use tc_front::{Arriving, Door, Queue, Routes};
-use tc_room::Room;
-use tc_types::{Moment, Refusal};
+use tc_front::{Arriving, Queue, Routes, Traffic};
+use tc_types::Refusal;
 use tc_words::Service;
 
 /// How many connections are open at most. Each holds a request, of 73,728 bytes at most and up to 4,095 that came with its last, or an answer, of 450,000 bytes at
@@ -38,7 +35,7 @@ const LAST_MILLISECONDS: u64 = 5_000;
 
 /// Why a server ends.
 #[derive(Clone, Copy, Debug, PartialEq, Eq)]
-pub(crate) enum End {
+pub enum End {
     /// So many connections were served as were asked for.
     Count,
     /// The standard input ended.
@@ -51,7 +48,7 @@ pub(crate) enum End {
 
 /// A server.
 #[derive(Drop)]
-pub(crate) struct Server<'a> {
+pub struct Server<'a> {
     rt: &'a HostRuntime,
     service: &'a Service<'a>,
     routes: Routes,
@@ -91,8 +88,8 @@ fn put_peer(peers: &mut [Option<Peer>], place: usize, peer: Option<Peer>) {
 }
 
 impl<'a> Server<'a> {
-    /// A server at this port, which is listened at.
-    pub(crate) fn new(
+    /// A server at this port, which is listened at. Fails if the port or the standard input cannot be waited for, or if memory is refused.
+    pub fn new(
         rt: &'a HostRuntime,
         mut listener: TcpListener,
         service: &'a Service<'a>,
@@ -127,15 +124,8 @@ impl<'a> Server<'a> {
         })
     }
 
-    /// Serves until it ends, and says why.
-    pub(crate) fn serve<S: Alter + Drop>(
-        &mut self,
-        door: &Door,
-        since: Moment,
-        room: &mut Room<S>,
-    ) -> End {
-        let alloc = self.rt.alloc();
-        serve_each(alloc, door, since, self, room);
+    /// Why it ended: `Port` if it has not, since then its port could not be waited for.
+    pub fn ended(&self) -> End {
         self.ending.map_or(End::Port, |(end, _)| end)
     }
 
