@@ -55,6 +55,8 @@ ENTRIES = (
           takes_seed=True),
     Entry("plain-link", "the link: each printed line beside the plain desk; each cell of FOP-1 and FARM-1; the promise by what is printed",
           modules=("tests.test_plain_link",), takes_seed=True),
+    Entry("plain-air", "a desk in the air: cases by hand, what a front end posts, the shortest runs in which an air breaks the promise, and random scripts over an air that loses, with a far side of its own",
+          modules=("tests.test_plain_air",), takes_seed=True),
     Entry("octets", "the plain octets of a link: 186 worked cases, and 3,600 random values, with streams that are cut, joined, damaged and full of noise; headers beside tshark",
           modules=("tests.test_octets",), needs="tshark, or its case is not tried", takes_seed=True),
     Entry("octets-command", "what `octets` prints beside a plain reading: cases by hand, the octets of the 186 worked ones, 2,000 random texts; profiles, long lines, words",
