@@ -122,6 +122,8 @@ ENTRIES = (
           needs=C_COMPILER, takes_seed=True, by_hand=True),
     Entry("limits-full", "a desk that comes to 990,000 moves by acts alone, and one on which the activities of 7,281 inserts, or of --count, ride at the same time",
           modules=("tests.test_limits_full",), takes_seed=True, by_hand=True),
+    Entry("air-flight", "10,000 requests, or --count of them, of a desk in the air over an air that loses a fifth, with 50 kills of the desk and 50 of its front end and far FARM",
+          modules=("tests.air_flight",), takes_seed=True, by_hand=True),
     Entry("kills", "10,000 kills at random moments of random scripts, or --count of them", modules=("faults.kill_often",), takes_seed=True,
           by_hand=True),
     Entry("postgres-full", "what the loader takes of 4 desks of 990,000 moves, or of --count of them", modules=("tests.test_postgres_full",),

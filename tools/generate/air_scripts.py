@@ -22,18 +22,21 @@ WRONG = ("up", "down", "clcw", "work", "clock 5", "loseup 0", "losedown 0", "ini
 
 @dataclass
 class AirStyle:
-    """How a script is written: how many turns; whether the front end keeps its premises; the share of frames and of items that are lost."""
+    """How a script is written: how many turns; whether the front end keeps its premises; the share of frames and of items that are lost, and of those that come
+    twice in a row."""
     name: str
     turns: int
     keeps: bool = True
     loses: float = 0.1
+    doubles: float = 0.0
     ks: tuple[int, ...] = (1, 2, 3, 10, 127)
     weights: dict[str, float] = field(default_factory=dict)
 
 
 STYLES = {it.name: it for it in (
     AirStyle("kept", 4000), AirStyle("lossy", 4000, loses=0.35, weights={"tick": 8}), AirStyle("schedule", 4000, loses=0.05, weights={"command": 8, "turn_clock": 4}),
-    AirStyle("restless", 3000, weights={"terminate": 4, "quiet": 12, "start": 12}), AirStyle("wild", 3000, keeps=False, weights={"wild": 14}),
+    AirStyle("restless", 3000, weights={"terminate": 4, "quiet": 12, "start": 12}), AirStyle("doubled", 3000, doubles=0.4),
+    AirStyle("wild", 3000, keeps=False, weights={"wild": 14}),
 )}
 WEIGHTS = {"fly": 14, "command": 1.5, "transmit": 20, "arrive": 18, "work": 9, "says": 10, "hear": 26, "tick": 3, "terminate": 0.3, "quiet": 4, "start": 5, "turn_clock": 1,
            "leave": 1, "ask": 2, "wrong": 1.5, "stray": 1, "wild": 0, "unflyable": 0.5, "tune": 0.5}
@@ -182,8 +185,12 @@ class AirWriter:
         """Frames of the queue come into the air."""
         for _ in range(max(1, min(len(self.desk.link.up), self.dice.choice((1, 3, 9))))):
             words = self.say("transmit", "front")[0].split(" ")
-            if words[1] == "frame" and self.desk.link.fop.state != INITIAL and self.dice.random() >= self.style.loses:
-                self.up.append(bytes.fromhex(words[-1]))
+            if words[1] == "frame" and self.desk.link.fop.state != INITIAL:
+                self.up += [bytes.fromhex(words[-1])] * self.times()
+
+    def times(self) -> int:
+        """How often something comes that was sent: not at all, once, or twice in a row."""
+        return 0 if self.dice.random() < self.style.loses else 1 + (self.dice.random() < self.style.doubles)
 
     def hear(self) -> None:
         """Items that came down are heard, or dropped where they are of an earlier service."""
@@ -228,7 +235,8 @@ class AirWriter:
 
     def puts(self, told: list[Told]) -> None:
         """Items go down, of which some are lost."""
-        self.down += [(self.service, it) for it in told if self.dice.random() >= self.style.loses]
+        for it in told:
+            self.down += [(self.service, it)] * self.times()
 
     def arrive(self) -> None:
         """The first frames arrive; the spacecraft works now and then."""

@@ -22,10 +22,10 @@ from tests.air_runs import RUNS, broken
 from tests.asked import ASKED
 from tests.runs import Tried, write_lines
 
-EACH = 4  # scripts of each style
-LEAST = {"confirmed": 1500, "accepted": 2000, "ok frame ad": 3000, "ok frame setvr": 150, "ok frame unlock": 150, "ok passed": 50, "ok unknown": 100, "alert T1": 20,
-         "alert LIMIT": 5, "alert TERM": 200, "alert NN(R)": 10, "alert SYNCH": 5, "initiate": 500, "quiet": 500, "refused 1": 200, "refused 2": 1, "refused 11": 50,
-         "refused 12": 200, "refused 19": 10, "refused 22": 100}
+EACH = 3  # scripts of each style
+LEAST = {"confirmed": 500, "accepted": 600, "ok frame ad": 900, "ok frame setvr": 100, "ok frame unlock": 50, "ok passed": 50, "ok unknown": 200, "alert T1": 20,
+         "alert LIMIT": 2, "alert TERM": 150, "alert NN(R)": 20, "alert SYNCH": 5, "initiate": 250, "quiet": 250, "refused 1": 200, "refused 2": 30, "refused 11": 100,
+         "refused 12": 200, "refused 19": 40, "refused 22": 80}
 
 
 class Found(NamedTuple):
