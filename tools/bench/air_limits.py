@@ -3,8 +3,8 @@
 
     tools/bench/air_limits.py [REQUESTS]
 
-For each loss and limit: how many services ended among so many requests (10,000), how many requests went to doubt, and how many were confirmed per tick. K is 10,
-the round trip four ticks, a word comes with each tick, and T1 is 6. A service that ended begins again after two round trips.
+Prints for each loss and limit how many services ended, how many of REQUESTS (10,000) went to doubt, and how many were confirmed per tick.
+K is 10, the round trip four ticks, and T1 6. A word comes with each tick. A service that ended begins again after two round trips.
 """
 import os
 import random
@@ -22,7 +22,7 @@ LOSSES, LIMITS = (5, 20, 50), (1, 2, 3, 5, 8, 12, 20, 40, 80)
 
 
 class Came(NamedTuple):
-    """What came of a flight."""
+    """The outcome of a flight."""
     ended: Counter[str]
     doubted: int
     confirmed: int
@@ -30,7 +30,7 @@ class Came(NamedTuple):
 
 
 def flies(requests: int, loss: int, limit: int, seed: int) -> Came:
-    """Flies so many requests."""
+    """Flies these requests."""
     dice, fop, farm = random.Random(seed), Fop(K), Farm(WINDOW)
     fop.t1, fop.limit = T1, limit
     up: deque[tuple[int, Frame]] = deque()

@@ -1,9 +1,9 @@
-"""Long random scripts of a desk in the air, with a far side of its own behind an air that loses. Each line is answered by the plain desk as it is written, so that
-it fits how all stands; `wanted` keeps the answers.
+"""Writers of long random scripts of a desk in the air, with a far side of its own after an air that loses. The plain desk answers each line as it is
+written, so that the next one fits.
 """
 import random
 from dataclasses import dataclass, field, replace
-from typing import Callable, Optional
+from typing import Optional
 
 from model.air import AirDesk, Service
 from model.far import Far, Told
@@ -14,16 +14,16 @@ from model.profiles import Profile
 from tests.air_bystander import Bystander
 
 PERSONS = "ann bob cid eve".split()
-WRONG = ("up", "down", "clcw", "work", "clock 5", "loseup 0", "losedown 0", "initiate none", "set k 128", "hear 010C0001", "hear 10c0001", "hear", "quiet 1", "transmit 1",
-         "hear tm 1,1 5/0 step 1 code 0", "hear tm 1,9 5/0 step 0 code 0", "hear tm 11,13 on 0", "hear tm 11,13 - 1", "hear tm 11,13 - 2 1/0 9 1/0 9",
+WRONG = ("up", "down", "clcw", "work", "clock 5", "loseup 0", "losedown 0", "initiate none", "set k 128", "hear 010C0001", "hear 10c0001",
+         "hear", "quiet 1", "transmit 1", "hear tm 1,1 5/0 step 1 code 0", "hear tm 1,9 5/0 step 0 code 0",
+         "hear tm 11,13 on 0", "hear tm 11,13 - 1", "hear tm 11,13 - 2 1/0 9 1/0 9",
          "hear tm 1,2 5/0 step 0 code 256", "hear tm 1,1 2048/0 step 0 code 0", "hear tm 1,1 5/16384 step 0 code 0",
          "release 65535", "request 0", "enter 5 ---c no 11 5 65535 - ok")
 
 
 @dataclass
 class AirStyle:
-    """How a script is written: how many turns; whether the front end keeps its premises; the share of frames and of items that are lost, and of those that come
-    twice in a row."""
+    """How a script is written: its turns, whether the front end keeps its premises, and which share of frames and items is lost, or doubled."""
     name: str
     turns: int
     keeps: bool = True
@@ -34,27 +34,29 @@ class AirStyle:
 
 
 STYLES = {it.name: it for it in (
-    AirStyle("kept", 4000), AirStyle("lossy", 4000, loses=0.35, weights={"tick": 8}), AirStyle("schedule", 4000, loses=0.05, weights={"command": 8, "turn_clock": 4}),
+    AirStyle("kept", 4000), AirStyle("lossy", 4000, loses=0.35, weights={"tick": 8}),
+    AirStyle("schedule", 4000, loses=0.05, weights={"command": 8, "turn_clock": 4}),
     AirStyle("restless", 3000, weights={"terminate": 4, "quiet": 12, "start": 12}), AirStyle("doubled", 3000, doubles=0.4),
     AirStyle("wild", 3000, keeps=False, weights={"wild": 14}),
 )}
-WEIGHTS = {"fly": 14, "command": 1.5, "transmit": 20, "arrive": 18, "work": 9, "says": 10, "hear": 26, "tick": 3, "terminate": 0.3, "quiet": 4, "start": 5, "turn_clock": 1,
-           "leave": 1, "ask": 2, "wrong": 1.5, "stray": 1, "wild": 0, "unflyable": 0.5, "tune": 0.5}
+WEIGHTS = {"fly": 14, "command": 1.5, "transmit": 20, "arrive": 18, "work": 9, "says": 10, "hear": 26, "tick": 3, "terminate": 0.3, "quiet": 4,
+           "start": 5, "turn_clock": 1, "leave": 1, "ask": 2, "wrong": 1.5, "stray": 1, "wild": 0, "unflyable": 0.5, "tune": 0.5}
 
 
 def some_profile(dice: random.Random) -> Profile:
-    """A profile, of which a desk and its far side can differ in no way."""
-    made = Profile(scid=dice.randrange(1024), tc_vcid=dice.choice((3, 0, 63)), tc_map=dice.choice((None, 0, 63)), tc_window=dice.choice((2, 4, 10, 20, 254)),
-                   tc_fecf=dice.random() < 0.8, source=dice.choice((0, 7, 65_535)), time_epoch=dice.choice((0, 0, -378_691_200, 1_000_000_000)),
+    """Returns a random profile."""
+    made = Profile(scid=dice.randrange(1024), tc_vcid=dice.choice((3, 0, 63)), tc_map=dice.choice((None, 0, 63)),
+                   tc_window=dice.choice((2, 4, 10, 20, 254)), tc_fecf=dice.random() < 0.8, source=dice.choice((0, 7, 65_535)),
+                   time_epoch=dice.choice((0, 0, -378_691_200, 1_000_000_000)),
                    time_fine=dice.choice((0, 2)), rehearsal=dice.random() < 0.8)
     return replace(made, tc_randomizer=dice.random() < 0.5)
 
 
 class AirWriter:
-    """Writes a script: `lines`, and `wanted`, what the plain desk answers to each; `bystander` sees both sides."""
+    """A writer: `lines`, the plain desk's answers in `wanted`, and a `bystander` who sees both sides."""
 
     def __init__(self, seed: int, style: AirStyle) -> None:
-        """Begins with a new desk and a new far side, by the seed's profile."""
+        """Makes a new desk and a new far side, with a profile by the seed."""
         self.dice, self.style = random.Random(seed), style
         self.profile = some_profile(self.dice)
         self.desk, self.far, self.moment = AirDesk(self.profile), Far(self.profile), 100
@@ -67,14 +69,14 @@ class AirWriter:
         self.is_fresh = False
 
     def write(self) -> "AirWriter":
-        """All turns."""
+        """Writes all turns."""
         weights = {**WEIGHTS, **self.style.weights}
         for _ in range(self.style.turns):
             getattr(self, self.dice.choices([*weights], [*weights.values()])[0])()
         return self
 
     def say(self, act: str, by: Optional[str] = None) -> list[str]:
-        """One line, a little later than the one before: its answer."""
+        """Writes a line, and returns its answer."""
         self.moment += self.dice.randrange(2)
         line = f"{self.moment} {by or self.dice.choice(PERSONS)} {act}"
         told = self.desk.line(line)
@@ -87,16 +89,16 @@ class AirWriter:
 
     @property
     def service(self) -> Service:
-        """The service that is on."""
+        """The service of the desk."""
         return self.desk.link.service
 
     def standing(self, *places: Place) -> list[int]:
-        """The last requests that stand at one of these places."""
+        """Returns the last requests that stand at one of these places."""
         count = len(self.desk.book.requests)
         return [n for n in range(count, max(0, count - 40), -1) if self.desk.book.place(n) in places]
 
     def prepare(self, words: str) -> Optional[int]:
-        """A request is entered and approved: its number, where it was."""
+        """Enters and approves a request. Returns its number, or None if it was refused."""
         before = len(self.desk.book.requests)
         self.say(f"enter {words}", "ann")
         if len(self.desk.book.requests) == before:
@@ -105,13 +107,13 @@ class AirWriter:
         return before + 1
 
     def plain_words(self) -> str:
-        """A plain request, as its entry spells it."""
+        """Spells a plain request."""
         ack = "".join(letter if self.dice.random() < 0.6 else "-" for letter in "aspc")
         outcome = self.dice.choice(("ok", "ok", "ok", "ok/3", "refuse/16", "nostart/40", "halt/2/40", "fail/255")) if self.profile.rehearsal else "ok"
         return f"{self.dice.choice((0, 1, 2, 2046))} {ack} no {self.dice.choice((8, 17, 255))} {self.dice.randrange(1, 256)} - - {outcome}"
 
     def fly(self) -> None:
-        """A request is released: a new one, or one that was given back."""
+        """Releases a request: a new one, or one that was given back."""
         if self.desk.link.fop.state not in SENDING and self.dice.random() < 0.9:
             return
         back = self.standing(Place.APPROVED)
@@ -120,7 +122,7 @@ class AirWriter:
             self.say(f"release {number}")
 
     def command(self) -> None:
-        """A command of the schedule is entered, approved and released."""
+        """Enters, approves and releases a command of the schedule."""
         there, kind = self.standing(Place.SCHEDULED, Place.DOUBTFUL, Place.RIDING), self.dice.choice((1, 2, 3, 4, 4, 4, 4, 5, 7, 15, 17))
         target, time = "-", "-"
         if kind == 4:
@@ -137,37 +139,38 @@ class AirWriter:
             self.say(f"release {number}")
 
     def unflyable(self) -> None:
-        """An entry that does not fit the profile, on any."""
+        """Enters a request that fits no profile."""
         late = self.profile.time_epoch + (1 << 32)
         riders = self.standing(Place.APPROVED)[:1]
         insert = f"5 ---c no 11 4 {riders[0]} {late if late <= LAST_MOMENT else 0} ok" if riders else ""
-        self.say("enter " + self.dice.choice(["2047 ---- no 8 1 - - ok", "5 ---c no 11 15 - 4000000000 ok", "5 ---- no 8 1 - - refuse/16"] + [insert] * bool(insert)))
+        others = ["2047 ---- no 8 1 - - ok", "5 ---c no 11 15 - 4000000000 ok", "5 ---- no 8 1 - - refuse/16"]
+        self.say("enter " + self.dice.choice(others + [insert] * bool(insert)))
 
     def leave(self) -> None:
-        """A request is closed."""
+        """Closes a request."""
         there = self.standing(*CLOSED_FROM)
         if there:
             self.say(f"close {self.dice.choice(there)}")
 
     def ask(self) -> None:
-        """A question."""
+        """Asks a question."""
         self.say(self.dice.choice(("link", "link", "places", "schedule", "waiting", "urgent 1", f"report 0 {self.moment}")))
 
     def wrong(self) -> None:
-        """An act that is refused."""
+        """Writes an act that is refused."""
         self.say(self.dice.choice(WRONG) if not self.desk.link.is_quiet else "up")
 
     def tune(self) -> None:
-        """K, T1 or the limit."""
-        self.say(self.dice.choice((f"set k {min(self.dice.choice(self.style.ks), self.profile.tc_window // 2)}", f"set t1 {self.dice.choice((2, 5, 20))}",
-                                   f"set limit {self.dice.choice((1, 2, 3, 8))}")))
+        """Sets K, T1 or the limit."""
+        k = min(self.dice.choice(self.style.ks), self.profile.tc_window // 2)
+        self.say(self.dice.choice((f"set k {k}", f"set t1 {self.dice.choice((2, 5, 20))}", f"set limit {self.dice.choice((1, 2, 3, 8))}")))
 
     def terminate(self) -> None:
-        """The service is ended."""
+        """Ends the service."""
         self.say("terminate")
 
     def start(self) -> None:
-        """The service is begun, where the air is quiet: well."""
+        """Begins the service well, if the air is quiet."""
         link, farm = self.desk.link, self.far.farm
         if not link.is_quiet:
             return
@@ -182,29 +185,29 @@ class AirWriter:
     # ---- the front end
 
     def transmit(self) -> None:
-        """Frames of the queue come into the air."""
+        """Brings frames of the queue into the air."""
         for _ in range(max(1, min(len(self.desk.link.up), self.dice.choice((1, 3, 9))))):
             words = self.say("transmit", "front")[0].split(" ")
             if words[1] == "frame" and self.desk.link.fop.state != INITIAL:
                 self.up += [bytes.fromhex(words[-1])] * self.times()
 
     def times(self) -> int:
-        """How often something comes that was sent: not at all, once, or twice in a row."""
+        """Returns how often a sent thing arrives: not at all, once, or twice in a row."""
         return 0 if self.dice.random() < self.style.loses else 1 + (self.dice.random() < self.style.doubles)
 
     def hear(self) -> None:
-        """Items that came down are heard, or dropped where they are of an earlier service."""
+        """Hears items that came down, and drops those of an earlier service."""
         for _ in range(min(len(self.down), self.dice.choice((1, 3, 9)))):
             service, told = self.down.pop(0)
             if service == self.service:
                 self.say(f"hear {heard_text(told)}", "front")
 
     def tick(self) -> None:
-        """Its clock."""
+        """Posts a tick."""
         self.say("tick", "front")
 
     def quiet(self) -> None:
-        """The front end waits until the air is quiet, and says so; now and then too early, which is refused."""
+        """Posts `quiet` with nothing in flight, or now and then too early, which is refused."""
         link = self.desk.link
         if link.fop.state == INITIAL and not link.is_quiet:
             while link.up:
@@ -215,16 +218,18 @@ class AirWriter:
             self.say("quiet", "front")
 
     def stray(self) -> None:
-        """What is no word of this channel, and a report on what nobody entered."""
+        """Posts a word of no FARM of this channel, or a report on a request that nobody entered."""
         word = self.far.word() ^ self.dice.choice((1 << 31, 1 << 18, 1 << 20))
-        self.say(f"hear {self.dice.choice((f'{word:08x}', 'tm 1,7 77/3 step 0 code 0', 'tm 11,13 - 0', 'tm 1,8 5/16383 step 0 code 9'))}", "front")
+        others = ("tm 1,7 77/3 step 0 code 0", "tm 11,13 - 0", "tm 1,8 5/16383 step 0 code 9")
+        self.say(f"hear {self.dice.choice((f'{word:08x}', *others))}", "front")
 
     def wild(self) -> None:
-        """Whatever a front end may post that keeps nothing."""
+        """Posts anything, as a front end that keeps no premise may."""
         dice = self.dice
         identity = f"{dice.choice((0, 1, 2, 5, 6))}/{dice.randrange(60)}"
         subtype = dice.randrange(1, 9)
-        report = f"tm 1,{subtype} {identity} step {dice.randrange(256) if subtype in (5, 6) else 0} code {dice.randrange(256) if subtype % 2 == 0 else 0}"
+        step, code = dice.randrange(256) if subtype in (5, 6) else 0, dice.randrange(256) if subtype % 2 == 0 else 0
+        report = f"tm 1,{subtype} {identity} step {step} code {code}"
         word = self.far.word() & ~0xff | dice.choice((self.desk.link.fop.vs, self.desk.link.fop.nn, dice.randrange(256)))
         word ^= dice.choice((0, 0, 0, 0x800, 0x1000, 0x1800, 0x2000, 0x4000, 0x100, 0x1c000000, 1 << 24, 1 << 30))
         names = [f"{apid}/{dice.randrange(30)} {dice.randrange(5000)}" for apid in dice.sample((0, 1, 2, 5, 6, 2047), dice.randrange(6))]
@@ -234,12 +239,12 @@ class AirWriter:
     # ---- the far side
 
     def puts(self, told: list[Told]) -> None:
-        """Items go down, of which some are lost."""
+        """Sends items down; some are lost."""
         for it in told:
             self.down += [(self.service, it)] * self.times()
 
     def arrive(self) -> None:
-        """The first frames arrive; the spacecraft works now and then."""
+        """Lets the first frames arrive; the spacecraft works now and then."""
         for _ in range(min(len(self.up), self.dice.choice((1, 2, 5)))):
             before = len(self.far.accepted)
             self.puts(self.far.frame(self.up.pop(0)))
@@ -249,21 +254,18 @@ class AirWriter:
                 self.work()
 
     def work(self) -> None:
-        """The spacecraft works."""
+        """Lets the spacecraft work."""
         self.puts(self.far.work())
 
     def says(self) -> None:
-        """A control word goes down."""
+        """Sends a control word down."""
         self.puts([self.far.word()])
 
     def turn_clock(self) -> None:
-        """The spacecraft's time goes on."""
+        """Sets the spacecraft's clock."""
         self.puts(self.far.clock(min(self.far.board.now + self.dice.randrange(200), LAST_MOMENT)))
 
 
-Deed = Callable[[], None]
-
-
 def written(seed: int, style: str) -> AirWriter:
-    """The script of a seed and a style."""
+    """Writes the script of a seed and a style."""
     return AirWriter(seed, STYLES[style]).write()

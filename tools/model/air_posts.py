@@ -1,7 +1,8 @@
-"""What a front end posts to a plain desk in the air, and what it is answered: the body of `POST /air`, the order of its tests, and the lines of the answer. It is
-written from the requirements, and asks the program nothing.
+"""The air port of a plain desk: the body of `POST /air`, the order of its tests, and the lines of the answer. It is written from the
+requirements, and asks the program nothing.
 """
 import re
+from dataclasses import dataclass
 from typing import NamedTuple, Optional, Sequence, Union
 
 from model import http, lines
@@ -15,8 +16,9 @@ ITEMS = ("transmit", "tick", "quiet", "hear")
 PATH = b"/air"
 
 
-class Post(NamedTuple):
-    """A body: under which service and index, when and in whose name, and its items."""
+@dataclass(frozen=True)
+class Post:
+    """A body: its service and index, its moment and person, and its items."""
     service: Service
     index: int
     moment: int
@@ -25,39 +27,39 @@ class Post(NamedTuple):
 
 
 class Answer(NamedTuple):
-    """The status of an answer, and its lines."""
+    """An answer: its status and its lines."""
     status: int
     lines: list[str]
 
     @property
     def text(self) -> str:
-        """Its lines as they are sent."""
+        """The lines as they are sent."""
         return "".join(f"{it}\n" for it in self.lines)
 
 
 def refused(number: Refusal) -> Answer:
-    """The answer of a refusal."""
+    """Returns the answer that refuses with this number."""
     return Answer(status_of(number), [number.line])
 
 
 # ---- a body
 
 def read_service(word: str) -> Service:
-    """A service."""
+    """Reads a service."""
     parts = word.split(".")
     need(len(parts) == 2)
     return lines.number(parts[0]), lines.number(parts[1])
 
 
 def read_item(text: str) -> Act:
-    """An item, which is spelled as its act."""
+    """Reads an item, which is spelled as an act."""
     act = lines.read_act(text)
     need(act.word in ITEMS)
     return act
 
 
 def read_post(body: bytes) -> Post:
-    """A body. Raises Refused with 17, and else with 1."""
+    """Reads a body. Raises Refused with 17 if it is too long, else with 1 if it is no body."""
     need(len(body) <= LONGEST_BODY and body.count(b"\n") <= 1 + MOST_ITEMS, Refusal.TOO_LONG)
     first, *items = body.decode("latin-1").split("\n")
     need(items and items.pop() == "")
@@ -67,21 +69,21 @@ def read_post(body: bytes) -> Post:
 
 
 def post_text(service: Service, index: int, moment: int, by: str, items: Sequence[str]) -> str:
-    """A body as it is spelled."""
+    """Spells a body."""
     return "".join(f"{it}\n" for it in [f"air {service_text(service)} {index} {moment} {by}", *items])
 
 
 # ---- the desk's side
 
 class Door:
-    """The air port of a plain desk: `had` is the last index that the desk had since its opening, `done` how many items it did."""
+    """The air port of a desk. `had` is the last index since the opening, 0 at first; `done` counts items."""
 
     def __init__(self, desk: AirDesk) -> None:
-        """Nothing was posted yet."""
+        """Makes the port of an opening."""
         self.desk, self.had, self.done = desk, 0, 0
 
     def post(self, body: bytes) -> Answer:
-        """What a body is answered."""
+        """Answers a body."""
         try:
             asked = read_post(body)
         except Refused as why:
@@ -90,7 +92,7 @@ class Door:
         return Answer(200, [self.head(), *told])
 
     def takes(self, asked: Post) -> list[str]:
-        """What is answered behind the first line. A body of another service is passed over, and so is one of an index that was had."""
+        """Returns the lines after the first. A body of another service, or of an index that was had, is passed over."""
         if asked.service != self.desk.link.service:
             return ["passed service"]
         if asked.index <= self.had:
@@ -99,22 +101,22 @@ class Door:
         return [self.does(asked, it) for it in asked.items]
 
     def does(self, asked: Post, item: Act) -> str:
-        """What an item is answered."""
+        """Does an item, and returns its line."""
         self.done += 1
         reply = self.desk.answers(lambda: self.desk.does(asked.by, asked.moment, item))
         return reply[0] if reply[0].startswith("refused ") else " ".join([reply[0], *self.desk.said])
 
     def head(self) -> str:
-        """The first line of an answer."""
+        """Returns the first line of an answer."""
         link = self.desk.link
-        return (f"air {service_text(link.service)} had {self.had} state {link.fop.state} queue {len(link.up)} quiet {'yes' if link.is_quiet else 'no'}"
-                f" profile {check_of(self.desk.profile):04x}")
+        quiet, check = "yes" if link.is_quiet else "no", check_of(self.desk.profile)
+        return f"air {service_text(link.service)} had {self.had} state {link.fop.state} queue {len(link.up)} quiet {quiet} profile {check:04x}"
 
 
 # ---- its HTTP
 
 def judged(head: bytes) -> Union[http.Refused, http.Post]:
-    """What a head text asks at the air port, in the order of the tests."""
+    """Judges a request head, in the order of the tests."""
     found = http.HEAD.fullmatch(head)
     fields = re.findall(http.FIELD, found[3]) if found else []
     if not found or len(fields) > MOST_FIELDS or not http.is_utf8(found[2]):
@@ -129,7 +131,7 @@ def judged(head: bytes) -> Union[http.Refused, http.Post]:
 
 
 def decided(front: bytes, hosts: Sequence[str]) -> Union[None, http.Refused, bytes]:
-    """What is served of a front of an input: a refusal, or a whole body; none where it decides nothing."""
+    """Returns a refusal or a whole body, or None if these octets decide nothing yet."""
     end = http.head_end(front[:http.LONGEST_HEAD])
     if end is None:
         return http.LARGE if len(front) > http.LONGEST_HEAD else None
@@ -144,14 +146,14 @@ def decided(front: bytes, hosts: Sequence[str]) -> Union[None, http.Refused, byt
 
 
 def response(answer: Answer) -> bytes:
-    """The bytes of an answer."""
+    """Returns the bytes of an answer."""
     body = answer.text.encode("ascii")
     head = [f"HTTP/1.1 {answer.status} {PHRASES[answer.status]}", "Content-Type: text/plain", f"Content-Length: {len(body)}", "Connection: close", ""]
     return "".join(f"{it}\r\n" for it in head).encode("ascii") + body
 
 
 def served(front: bytes, door: Door, hosts: Sequence[str]) -> Optional[bytes]:
-    """The bytes that answer a front of an input; none where it decides nothing."""
+    """Returns the bytes that answer these octets, or None if they decide nothing yet."""
     found = decided(front, hosts)
     if found is None:
         return None

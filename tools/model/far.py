@@ -1,5 +1,5 @@
-"""A plain far side of a link: a FARM and a spacecraft that know octets alone, no desk and no number of a request. It is written from the requirements, and asks
-the program nothing.
+"""A plain far side of a link: a FARM and a spacecraft that know octets alone, and no number of a request. It is written from the
+requirements, and asks the program nothing.
 """
 from typing import Union
 
@@ -15,11 +15,10 @@ Told = Union[int, packets.Told]
 
 
 class Far:
-    """The far side. Requests get numbers of its own, in order of arrival; `accepted` has the names of those that its FARM accepted, in order. Of a packet that
-    does not read nothing is carried out."""
+    """The far side. It numbers requests by arrival. `accepted` has the names of those that its FARM accepted, in order."""
 
     def __init__(self, profile: Profile) -> None:
-        """Nothing came yet."""
+        """Makes a far side that has received nothing."""
         self.profile, self.farm = profile, Farm(profile.tc_window, profile.tc_vcid)
         self.requests: list[Request] = []
         self.board = Board(self.requests)
@@ -28,7 +27,7 @@ class Far:
     # ---- what comes
 
     def frame(self, octets: bytes) -> list[Told]:
-        """A frame arrives: the reports that it makes at once. One that does not read is dropped."""
+        """Takes a frame, and returns the reports that it makes at once. A frame that does not read is dropped."""
         try:
             frame = read_tc_frame(self.profile, octets)
         except Refused:
@@ -43,13 +42,13 @@ class Far:
         return self.told(self.board.accept(self.note(flight)))
 
     def note(self, flight: Flight) -> int:
-        """One request more, whose number is this; its activities come before it."""
+        """Notes a request after its activities, and returns its number."""
         form = self.form_of(flight)
         self.requests.append(Request(len(self.requests) + 1, flight.identity, form, ""))
         return len(self.requests)
 
     def form_of(self, flight: Flight) -> Form:
-        """What flew, as the board takes it."""
+        """Returns a flight in the form that the board takes."""
         task = flight.task
         service, subtype = kind_of(task)
         apid = flight.identity.apid
@@ -59,7 +58,7 @@ class Far:
         return Form(apid, flight.ack, False, service, subtype, targets, times, "ok")
 
     def named_by(self, task: Task) -> tuple[tuple[int, ...], tuple[int, ...]]:
-        """The targets of a command by their numbers here, and its times or its offset."""
+        """Returns the targets of a command by their numbers here, and its times or its offset."""
         if isinstance(task, Insert):
             return tuple(self.note(it) for _, it in task.activities), tuple(at for at, _ in task.activities)
         if isinstance(task, Delete):
@@ -70,31 +69,31 @@ class Far:
         return (), (task.offset,) if isinstance(task, ShiftAll) else ()
 
     def newest(self, identity: Identity) -> int:
-        """The activity of a name in the schedule; else the number 0, which none has."""
+        """Returns the activity of a name in the schedule, or 0 if there is none."""
         return next((it for it in self.board.schedule.times if self.board.identity(it) == identity), 0)
 
     # ---- what it does
 
     def word(self) -> int:
-        """The control word."""
+        """Returns the control word."""
         return self.farm.word().value
 
     def work(self) -> list[Told]:
-        """The oldest request of the buffer is carried out, and the FARM has a buffer free: the reports."""
+        """Carries out the oldest request, frees a buffer, and returns the reports."""
         _, reports = self.board.work()
         self.farm.release()
         return self.told(reports)
 
     def clock(self, time: int) -> list[Told]:
-        """The time goes on: the reports of what falls due."""
+        """Sets the time, and returns the reports of what falls due."""
         return self.told(self.board.clock(time))
 
     def told(self, reports: list[Report]) -> list[Told]:
-        """Reports as they come down: by names."""
+        """Returns reports as they come down, by names."""
         return [self.told_of(it) for it in reports]
 
     def told_of(self, report: Report) -> packets.Told:
-        """One of them."""
+        """Returns a report as it comes down."""
         if isinstance(report, Summary):
             return packets.Summary(report.is_enabled, tuple((at, self.board.identity(it)) for it, at in report.times.items()))
         subtype = int(report.subtype)

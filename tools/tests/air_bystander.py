@@ -1,4 +1,4 @@
-"""A bystander of a desk in the air: it sees both sides, session by session, and says what of the promise does not hold."""
+"""A bystander of a desk in the air: it sees both sides, session by session, and says which part of the promise fails."""
 from collections import Counter
 from typing import Optional
 
@@ -11,10 +11,10 @@ STARTED, BEGINNING = {"T1", "LIMIT", "TERM"}, {"T1", "TERM", "NN(R)", "SYNCH"}
 
 
 class Session:
-    """What was sent, accepted far away and confirmed since a start, each in order, and what went to doubt; `most` is the greatest K."""
+    """A session: the requests that were sent, accepted far away and confirmed, each in order, and those in doubt. `most` is its greatest K."""
 
     def __init__(self) -> None:
-        """Nothing yet."""
+        """Makes an empty session."""
         self.sent: list[int] = []
         self.accepted: list[int] = []
         self.confirmed: list[int] = []
@@ -23,11 +23,13 @@ class Session:
 
 
 class Bystander:
-    """Reads what the desk answers and what its FOP said, and is told what the far FARM accepts. `fault` has what does not hold first; `seen` counts what was looked
-    at. While an air does more than lose, `keeps` is false, and nothing is asked of what it brings."""
+    """Reads the answers of a desk and what its FOP said, and is told which requests the far FARM accepts.
+
+    `fault` has the first part of the promise that fails, and `seen` counts all kinds of answers. Nothing can fail unless `keeps`, which says that the
+    front end keeps its premises."""
 
     def __init__(self, desk: AirDesk, keeps: bool = True) -> None:
-        """Before the first start."""
+        """Stands by before the first start."""
         self.desk, self.keeps = desk, keeps
         self.sessions = [Session()]
         self.seen: Counter[str] = Counter()
@@ -39,16 +41,16 @@ class Bystander:
 
     @property
     def session(self) -> Session:
-        """The one that is on, or was last."""
+        """The session that is on, or was last."""
         return self.sessions[-1]
 
     def need(self, holds: bool, why: str) -> None:
-        """What has to hold."""
+        """Notes a fault unless this holds."""
         if not holds and self.fault is None and self.keeps:
             self.fault = why
 
     def reads(self, act: str, told: list[str]) -> None:
-        """An act, or an item, and its answer."""
+        """Reads an act or an item with its answer."""
         is_refused, words = told[0].startswith("refused "), told[0].split(" ")
         self.seen[f"refused {words[1]}" if is_refused else act.split(" ")[0]] += 1
         if is_refused:
@@ -66,7 +68,7 @@ class Bystander:
         self.read = len(self.desk.link.log)
 
     def says(self, it: Indication) -> None:
-        """What the FOP said."""
+        """Reads one indication of the FOP."""
         session = self.session
         if it.kind == "Started":
             self.is_started = True
@@ -78,22 +80,24 @@ class Bystander:
             session.most = max(session.most, self.desk.link.fop.k)
             self.ever_sent.add(it.request)
         elif it.kind == "Confirmed":
-            self.need(session.accepted[len(session.confirmed):len(session.confirmed) + 1] == [it.request], f"{it.request} is confirmed, accepted were {session.accepted[-3:]}")
+            due = session.accepted[len(session.confirmed):len(session.confirmed) + 1]
+            self.need(due == [it.request], f"{it.request} is confirmed, accepted were {session.accepted[-3:]}")
             session.confirmed.append(it.request)
             self.seen["confirmed"] += 1
         elif it.kind == "InDoubt":
             session.doubted.append(it.request)
 
     def ends(self, alert: str) -> None:
-        """The service ends: what was accepted far away and is not confirmed is in doubt, and that is no more than K."""
+        """Judges the end of a service: accepted requests are confirmed or in doubt, and no more than K are in doubt."""
         session = self.session
-        self.need(alert in (STARTED if self.is_started else BEGINNING), f"alert {alert} of a service that had {'started' if self.is_started else 'not started'}")
+        may_come = STARTED if self.is_started else BEGINNING
+        self.need(alert in may_come, f"alert {alert} of a service that had {'started' if self.is_started else 'not started'}")
         self.need(len(session.doubted) <= session.most, f"{len(session.doubted)} went to doubt, K was {session.most} at most")
         self.need(set(session.accepted[len(session.confirmed):]) <= set(session.doubted), "accepted, and neither confirmed nor in doubt")
         self.seen[f"alert {alert}"] += 1
 
     def accepts(self, identity: Identity) -> None:
-        """The far FARM accepted a request: the next of those that were sent, and never before."""
+        """Judges an acceptance: the request is the next that was sent, and comes for the first time."""
         number, session = self.desk.book.named[identity][-1], self.session
         self.need(number not in self.ever_accepted, f"{number} is accepted twice")
         self.need(session.sent[len(session.accepted):len(session.accepted) + 1] == [number], f"{number} is accepted, sent were {session.sent[-3:]}")

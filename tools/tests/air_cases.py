@@ -1,5 +1,4 @@
-"""The cases of a desk in the air that are written by hand (tools/cases/air): a desk that is opened again and again, with the lines of a script, the bodies of its
-front end, and what each is answered."""
+"""The cases of a desk in the air that are written by hand (tools/cases/air): openings, lines of scripts, bodies of a front end, and their answers."""
 import os
 from typing import NamedTuple, Optional
 
@@ -13,7 +12,7 @@ FOLDER = f"{CASES}/air"
 
 
 class Deed(NamedTuple):
-    """What is done, by its sign: `>` a line, `=` a body, `!` an opening; and what it is answered. `at` is its line in the file."""
+    """A deed by its sign, `>` for a line, `=` for a body and `!` for an opening, with its answer. `at` is its line in the file."""
     at: int
     sign: str
     asked: list[str]
@@ -21,7 +20,7 @@ class Deed(NamedTuple):
 
 
 def deeds(name: str) -> list[Deed]:
-    """The deeds of a file."""
+    """Reads the deeds of a file."""
     made: list[Deed] = []
     for at, line in enumerate(bytes_of(f"{FOLDER}/{name}.txt").decode("ascii").split("\n"), 1):
         sign, said = line[:1], line[2:]
@@ -35,16 +34,16 @@ def deeds(name: str) -> list[Deed]:
 
 
 class Played:
-    """A desk in the air that does them."""
+    """A desk in the air that does deeds."""
 
     def __init__(self) -> None:
-        """Before its first opening."""
+        """Makes it; its first opening is a deed."""
         self.files = {it: bytes_of(f"{FOLDER}/{it}") for it in os.listdir(FOLDER) if it.endswith(".csv")}
         self.desk: Optional[AirDesk] = None
         self.door: Optional[Door] = None
 
     def opens(self, words: str) -> list[str]:
-        """Opens it at a moment under a profile."""
+        """Opens it at a moment under a profile, and returns the moves of the opening."""
         moment, _, text = words.partition(" ")
         profile = profile_of(text)
         self.desk = AirDesk.opened_in_air(self.desk.tables(), int(moment), profile, self.files) if self.desk else AirDesk(profile, self.files)
@@ -52,7 +51,7 @@ class Played:
         return [it.line() for it in self.desk.opening]
 
     def does(self, it: Deed) -> list[str]:
-        """What a deed is answered."""
+        """Does a deed, and returns its answer."""
         if it.sign == "!":
             return self.opens(it.asked[0])
         assert self.desk and self.door, "an opening comes first"

@@ -1,5 +1,4 @@
-"""A plain front end: what it owes, over any way to post. Its clock counts in steps. It knows frames as octets and what comes down as texts, and nothing of the
-desk but its answers.
+"""A plain front end that keeps its premises, over any way to post. Its clock counts steps. It knows frames as octets and what comes down as texts.
 """
 import re
 from typing import Callable, NamedTuple, Optional
@@ -13,7 +12,7 @@ NO_SERVICE: Service = (0, 0)
 
 
 class Head(NamedTuple):
-    """The first line of an answer."""
+    """The first line of an answer of the air port."""
     service: Service
     had: int
     state: str
@@ -23,21 +22,21 @@ class Head(NamedTuple):
 
 
 def read_head(line: str) -> Head:
-    """Reads it."""
+    """Reads the first line of an answer."""
     found = HEAD.fullmatch(line)
     assert found, line
     return Head(read_service(found[1]), int(found[2]), found[3], int(found[4]), found[5] == "yes", found[6])
 
 
 class Counter:
-    """What of a frame count is fresh: one that stands or goes back is not, as far as half of all counts tell that."""
+    """The frame count of a connection, modulo 256: a count that stands or goes back is not fresh."""
 
     def __init__(self) -> None:
-        """A new connection: any count is taken."""
+        """Begins a connection, which takes any count."""
         self.last: Optional[int] = None
 
     def is_fresh(self, count: int) -> bool:
-        """Whether a frame of this count came after the last one; then it is the last one."""
+        """Returns true if a frame of this count is younger than the last one, and notes it then."""
         fresh = self.last is None or 0 < (count - self.last) % 256 < 128
         if fresh:
             self.last = count
@@ -45,10 +44,10 @@ class Counter:
 
 
 class Front:
-    """A front end. `post` sends a body, and gives the lines of the answer; `radiates` brings a frame into the air. `trip` is the round trip, in steps."""
+    """A front end. `post` sends a body and returns the answer's lines; `radiates` brings a frame into the air; `trip` is the round trip in steps."""
 
     def __init__(self, post: Callable[[str], list[str]], radiates: Callable[[bytes], None], trip: int, name: str = "front") -> None:
-        """Begins anew: whatever an earlier one has sent may still fly."""
+        """Begins anew: frames of an earlier front end may still fly."""
         self.post, self.radiates, self.trip, self.name = post, radiates, trip, name
         self.now, self.index, self.flew = 0, 0, 0
         self.head = Head(NO_SERVICE, 0, "S6", 0, False, "")
@@ -60,8 +59,9 @@ class Front:
     # ---- what comes down
 
     def hears(self, count: int, texts: list[str]) -> None:
-        """A frame came down with this count, and with it a word and reports. They wait for the next body, or are dropped: of an old frame, or of a service
-        that was not yet seen one round trip ago."""
+        """Takes the word and the reports of a frame that came down with this count. They wait for the next body.
+
+        They are dropped if the frame is old, or if the service was not seen one round trip ago."""
         is_ours = self.head.service != NO_SERVICE and self.now >= self.seen + self.trip
         if self.counter.is_fresh(count) and is_ours:
             self.waiting += texts
@@ -71,7 +71,7 @@ class Front:
     # ---- what is posted
 
     def step(self, moment: int, is_tick: bool = True) -> list[str]:
-        """One step of its clock: a body is posted, and what it tells is done. Gives the lines of the answer."""
+        """Posts the body of one step of its clock, and radiates the frames that were told. Returns the lines of the answer."""
         self.now += 1
         said, self.waiting = self.waiting[:MOST_ITEMS // 2], self.waiting[MOST_ITEMS // 2:]
         items = [f"hear {it}" for it in said] + ["tick"] * is_tick + ["quiet"] * self.may_say_quiet()
@@ -84,11 +84,13 @@ class Front:
         return told
 
     def may_say_quiet(self) -> bool:
-        """Whether the air is quiet: no service is on, nothing waits, and one round trip went by since the last frame, or since it began."""
-        return self.head.service != NO_SERVICE and self.head.state == "S6" and self.head.queue == 0 and not self.head.is_quiet and self.now > self.flew + self.trip
+        """Returns true if the air is quiet: no service is on, nothing waits, and a round trip went by since the last frame, or since the start."""
+        head = self.head
+        is_over = head.service != NO_SERVICE and head.state == "S6" and head.queue == 0
+        return is_over and not head.is_quiet and self.now > self.flew + self.trip
 
     def frame(self, octets: bytes) -> None:
-        """A frame was told: it is radiated, unless its service has ended."""
+        """Radiates a frame, unless its service has ended."""
         if self.head.state == "S6":
             self.dropped += 1
             return

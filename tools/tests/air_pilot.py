@@ -1,10 +1,10 @@
 #!/usr/bin/env python3
-"""The flight of a desk in the air: its operator, its front end, an air that loses, and a far FARM, in one process that may be killed at any moment and begun again.
+"""The flight of a desk in the air: its operator, its front end, an air that loses, and a far FARM. The process may be killed at any moment.
 
     air_pilot.py FOLDER DESK-PORT AIR-PORT REQUESTS SEED LOSS
 
-The far FARM outlives it: FOLDER/far has a line for each frame that it accepted, and its state, written before any word of it leaves. All else is lost. The moment
-of each act and body is 10,000 times the opening and the start: so each move tells its service.
+The far FARM outlives it: FOLDER/far has its state and each request that it accepted, written before any word leaves. All else is lost.
+The moment of each act and body is 10,000 times the opening, plus the start, so each move tells its service.
 """
 import json
 import os
@@ -31,19 +31,19 @@ HEADER = "line,apid,service,subtype,target,time,ack,critical,after,outcome"
 
 
 def moment_of(service: Service) -> int:
-    """The moment by which the moves of a service are known."""
+    """Returns the moment of all moves of a service."""
     return service[0] * 10_000 + service[1]
 
 
 class Line:
-    """A port: each request until it is answered."""
+    """A port that is asked until it answers."""
 
     def __init__(self, port: int) -> None:
-        """At this port."""
+        """Takes the number of the port."""
         self.port = port
 
     def asks(self, method: str, path: str, body: Optional[bytes] = None) -> bytes:
-        """The answer; while there is none, the same again."""
+        """Sends a request until it is answered, and returns the answer."""
         while True:
             try:
                 connection = HTTPConnection("127.0.0.1", self.port, timeout=10)
@@ -59,10 +59,10 @@ class Line:
 
 
 class FarFarm:
-    """The far FARM: what it knows stands in a file."""
+    """The far FARM, whose state stands in a file."""
 
     def __init__(self, folder: str, dice: random.Random) -> None:
-        """As its file left it."""
+        """Begins as its file left it."""
         with open(f"{folder}/link.profile", "rb") as file:
             self.profile = read_profile(file.read())
         self.farm, self.dice = Farm(self.profile.tc_window, self.profile.tc_vcid), dice
@@ -73,13 +73,13 @@ class FarFarm:
         self.log = open(self.path, "a", encoding="ascii")
 
     def note(self, *words: Any) -> None:
-        """Writes what it is now, and what it took."""
+        """Writes its state, and the request that it accepted, if any."""
         it = self.farm
         self.log.write(json.dumps([it.vr, it.b, it.state, it.flags, *words]) + "\n")
         self.log.flush()
 
     def frame(self, octets: bytes, service: Service) -> list[str]:
-        """A frame arrives: the reports of it. Now and then no buffer is free."""
+        """Takes a frame, and returns the reports. Now and then no buffer is free."""
         try:
             frame = read_tc_frame(self.profile, octets)
         except Refused:
@@ -97,14 +97,14 @@ class FarFarm:
         return [heard_text(Verification(subtype, flight.identity)) for subtype, letter in ((1, "a"), (7, "c")) if letter in flight.ack]
 
     def release(self) -> None:
-        """A buffer is free."""
+        """Frees a buffer."""
         if self.farm.flags["Wait"]:
             self.farm.release()
             self.note()
 
 
 def lines_of(path: str) -> list[Any]:
-    """The lines of a log, but one that was cut."""
+    """Reads the lines of a log, and removes a last line that was cut."""
     if not os.path.exists(path):
         return []
     with open(path, "rb") as file:
@@ -117,10 +117,10 @@ def lines_of(path: str) -> list[Any]:
 
 
 class Pilot:
-    """All of them."""
+    """Operator, front end, air and far FARM."""
 
     def __init__(self, words: list[str]) -> None:
-        """Begins anew: the air is empty, and nobody knows which number an act had."""
+        """Begins anew with an empty air, and numbers that no earlier run used."""
         folder, desk_port, air_port, requests, seed, loss = words
         self.folder, self.requests, self.loss = folder, int(requests), float(loss)
         self.run = len(lines_of(f"{folder}/runs")) + 1
@@ -136,14 +136,14 @@ class Pilot:
         self.ready: deque[int] = deque()
 
     def note(self, name: str, *words: Any) -> None:
-        """A line of a log."""
+        """Writes a line of a log."""
         with open(f"{self.folder}/{name}", "a", encoding="ascii") as log:
             log.write(json.dumps(words) + "\n")
 
     # ---- the air
 
     def posts(self, body: str) -> list[str]:
-        """A body is posted until it is answered."""
+        """Posts a body until it is answered."""
         lines = self.air.asks("POST", "/air", body.encode("ascii")).decode("ascii").splitlines()
         for line in lines:
             if " alert " in line:
@@ -151,12 +151,12 @@ class Pilot:
         return lines
 
     def radiates(self, octets: bytes) -> None:
-        """A frame flies, or is lost."""
+        """Lets a frame fly, or loses it."""
         if self.dice.random() >= self.loss:
             self.up.append((self.front.now + DELAY, octets, self.front.head.service))
 
     def far_side(self) -> None:
-        """What arrives is taken, and one frame comes down with a word and reports, or is lost."""
+        """Takes the frames that arrive, and sends one frame down with a word and reports; it may be lost."""
         texts: list[str] = []
         while self.up and self.up[0][0] <= self.front.now:
             _, octets, service = self.up.popleft()
@@ -172,14 +172,14 @@ class Pilot:
     # ---- the operator
 
     def act(self, by: str, text: str) -> list[str]:
-        """An act, until it is answered: its lines."""
+        """Posts an act until it is answered, and returns the lines."""
         self.number += 1
         keys = {"act": text, "by": by, "moment": moment_of(self.front.head.service), "number": self.run * 100_000 + self.number}
         told: list[str] = json.loads(self.desk.asks("POST", "/acts", json.dumps(keys).encode()))["lines"]
         return told
 
     def prepare(self) -> None:
-        """All requests are entered and approved; what was before is refused now."""
+        """Enters and approves all requests; an earlier run may have done so."""
         for stack in range(-(-self.requests // ROWS)):
             rows = min(ROWS, self.requests - stack * ROWS)
             ack = ("----", "a--c", "a---")[stack % 3]
@@ -191,7 +191,7 @@ class Pilot:
             self.act("bob", f"approvestack s{stack}")
 
     def standing(self, place: str) -> list[int]:
-        """The requests at a place."""
+        """Returns the requests at a place."""
         found: list[int] = []
         while True:
             told = self.act("ann", f"standing {place} {found[-1] if found else 0}")
@@ -200,7 +200,7 @@ class Pilot:
                 return found
 
     def starts(self) -> None:
-        """The service is begun, where the front end said that the air is quiet: by a number, or by a check against the last word."""
+        """Begins the service in a quiet air: by Set V(R), or by a check against the last word."""
         head = self.front.head
         if not head.is_quiet or head.state != "S6":
             return
@@ -215,7 +215,7 @@ class Pilot:
         self.note("starts", service_text(head.service), told[0])
 
     def releases(self) -> None:
-        """Requests are released, as many as the link takes; now and then the service is ended."""
+        """Releases up to four requests, and ends the service now and then."""
         if self.front.head.state not in ("S1", "S2", "S3"):
             return
         if not self.ready:

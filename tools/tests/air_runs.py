@@ -1,5 +1,5 @@
-"""The shortest runs in which an air that does more than lose breaks the promise, deed by deed: K 2, W 10, T1 1, limit 3. A number names the frame, or the word, that
-was sent as this one, from 0; a deed of the air that is not lawful stands behind `*`.
+"""The shortest runs in which an air that does more than lose breaks the promise, with K 2, W 10, T1 1 and limit 3. A number names a frame or a
+word by its place among those that were sent, from 0. `*` marks the fault of the air.
 """
 from typing import NamedTuple, Optional
 
@@ -15,32 +15,33 @@ PROFILE = Profile(tc_window=10)
 
 
 class Run(NamedTuple):
-    """A run: what the air does, its deeds, what of the promise then does not hold, and what keeps it away, if anything."""
+    """A run: the fault of the air, the deeds, the part of the promise that fails, and the rule that keeps it away, if any."""
     air: str
     deeds: str
     breaks: str
     kept_by: str
 
 
+NEVER_ACCEPTED, TWICE = "1 is confirmed, accepted were []", "1 is accepted twice"
 RUNS = (
-    Run("changes a word", "initiate none, offer, word, *hear 0 as 1", "1 is confirmed, accepted were []", "check"),
+    Run("changes a word", "initiate none, offer, word, *hear 0 as 1", NEVER_ACCEPTED, "check"),
     Run("changes the number of a frame", "initiate none, offer, offer, *arrive 1 as 0", "2 is accepted, sent were [1, 2]", "check"),
     Run("delays a frame into the next service", "initiate none, offer, terminate, initiate check, *arrive 0", "1 is accepted, sent were []", "wait"),
-    Run("lets a word be overtaken", "initiate setvr 255, word, arrive 0, word, *hear 1, offer, hear 0", "1 is confirmed, accepted were []", "count"),
-    Run("repeats a frame over a start", "initiate none, offer, terminate, arrive 0, initiate setvr 0, arrive 1, *arrive 0", "1 is accepted twice", ""),
-    Run("delays a frame within a service", "initiate setvr 0, word, hear 0, offer, tick, *arrive 1, arrive 0, arrive 2", "1 is accepted twice", ""),
-    Run("repeats a word over a start", "initiate setvr 255, terminate, word, arrive 0, hear 0, initiate none, offer, *hear 0", "1 is confirmed, accepted were []",
+    Run("lets a word be overtaken", "initiate setvr 255, word, arrive 0, word, *hear 1, offer, hear 0", NEVER_ACCEPTED, "count"),
+    Run("repeats a frame over a start", "initiate none, offer, terminate, arrive 0, initiate setvr 0, arrive 1, *arrive 0", TWICE, ""),
+    Run("delays a frame within a service", "initiate setvr 0, word, hear 0, offer, tick, *arrive 1, arrive 0, arrive 2", TWICE, ""),
+    Run("repeats a word over a start", "initiate setvr 255, terminate, word, arrive 0, hear 0, initiate none, offer, *hear 0", NEVER_ACCEPTED,
         "count"),
-    Run("repeats a word from before the start", "initiate setvr 255, word, arrive 0, word, hear 0, hear 1, offer, *hear 0", "1 is confirmed, accepted were []", "count"),
-    Run("repeats Set V(R) within a service", "initiate setvr 0, arrive 0, word, hear 0, offer, tick, arrive 1, *arrive 0, arrive 2", "1 is accepted twice", ""),
+    Run("repeats a word from before the start", "initiate setvr 255, word, arrive 0, word, hear 0, hear 1, offer, *hear 0", NEVER_ACCEPTED, "count"),
+    Run("repeats Set V(R) within a service", "initiate setvr 0, arrive 0, word, hear 0, offer, tick, arrive 1, *arrive 0, arrive 2", TWICE, ""),
 )
 
 
 class Field:
-    """A desk and a far side, and all that was ever sent between them. `rules` says whether a front end keeps its rules on what comes down."""
+    """A desk and a far side, with all that was ever sent between them. `rules` names the rule that the front end keeps."""
 
     def __init__(self, rules: str) -> None:
-        """A new desk with the numbers of the search."""
+        """Makes a new desk with the settings of the search."""
         self.rules = rules
         self.desk, self.far = AirDesk(PROFILE), Far(PROFILE)
         self.bystander, self.counter = Bystander(self.desk), Counter()
@@ -51,7 +52,7 @@ class Field:
             self.say(act)
 
     def say(self, act: str) -> list[str]:
-        """An act, which has to be taken; its frames fly at once."""
+        """Does an act, which must be accepted; its frames fly at once."""
         told = self.desk.line(f"0 ann {act}")
         assert not told[0].startswith("refused"), (act, told)
         self.bystander.reads(act, told)
@@ -61,7 +62,7 @@ class Field:
         return told
 
     def does(self, deed: str) -> None:
-        """One deed."""
+        """Does a deed."""
         word, *rest = deed.removeprefix("*").split(" ")
         if word == "offer":
             number = len(self.desk.book.requests) + 1
@@ -80,14 +81,14 @@ class Field:
             self.say(" ".join([word, *rest]))
 
     def hear(self, place: int, other: Optional[int]) -> None:
-        """A word comes down, or another in its place, which the check of its frame would find."""
+        """Hears a word, or another in its place, which the check of its frame would find."""
         is_bad = other is not None and self.rules == "check" or self.rules == "count" and not self.counter.is_fresh(place)
         self.held_back += is_bad
         if not is_bad:
             self.say(f"hear {self.words[place] if other is None else self.words[place] & ~0xff | other:08x}")
 
     def arrive(self, place: int, other: Optional[int]) -> None:
-        """A frame arrives, or one of another number in its place: with its check, or, where that is kept, without."""
+        """Lets a frame arrive, or the same frame with another number. The check finds that, if the rule is kept."""
         octets = self.flown[place]
         if other is not None:
             frame = read_tc_frame(PROFILE, octets)
@@ -100,7 +101,7 @@ class Field:
 
 
 def broken(run: Run, rules: str = "") -> tuple[Optional[str], int]:
-    """What of the promise does not hold after a run, and how often the front end held something back."""
+    """Plays a run. Returns the part of the promise that fails, if any, and how many words were held back."""
     field = Field(rules)
     for deed in run.deeds.split(", "):
         field.does(deed)

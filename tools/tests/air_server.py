@@ -1,6 +1,7 @@
 #!/usr/bin/env python3
-"""A plain desk in the air, served: the words of `tcdesk serve --air PROFILE --air-port PORT DB PORT`. What was answered stands when it is killed: DB has the
-desk as the last opening found it, and DB.journal.N all that was taken since.
+"""A server of a plain desk in the air, by the words of `tcdesk serve --air PROFILE --air-port PORT DB PORT`.
+
+All that was answered stands after a kill: DB has the desk as the last opening found it, and DB.journal.N what was accepted since.
 """
 import json
 import os
@@ -22,10 +23,10 @@ Serves = Callable[[bytes], Optional[bytes]]
 
 
 class Served:
-    """A desk, its calls, and its air port, over its files."""
+    """A desk with its calls and its air port, over its files."""
 
     def __init__(self, path: str, profile: bytes, moment: int) -> None:
-        """Opens it: what stands in its files is done once more, and then the next opening begins."""
+        """Opens it: replays its files, and begins the next opening."""
         self.profile = read_profile(profile)
         desk = self.again(path) if os.path.exists(path) else None
         self.number = desk.link.opening + 1 if desk else 1
@@ -37,11 +38,11 @@ class Served:
         self.begin(AirDesk.opened_in_air(tables, moment, self.profile) if tables else AirDesk(self.profile))
 
     def begin(self, desk: AirDesk) -> None:
-        """Its calls and its air port."""
+        """Begins calls and air port over a desk."""
         self.calls, self.door = Calls(desk), Door(desk)
 
     def again(self, path: str) -> AirDesk:
-        """The desk as it was left."""
+        """Returns the desk as it was left."""
         with open(path, "rb") as file:
             number, moment, profile, tables = pickle.load(file)
         self.profile, now = read_profile(profile), self.profile
@@ -54,19 +55,19 @@ class Served:
         return desk
 
     def redo(self, kind: str, *words: Any) -> None:
-        """One line of the journal."""
+        """Does a line of the journal again."""
         if kind == "air":
             self.door.post(words[0].encode("latin-1"))
         else:
             self.calls.reply(Acts(*words) if kind == "act" else Loads(*words))
 
     def keep(self, *words: Any) -> None:
-        """One line more."""
+        """Writes a line of the journal."""
         self.journal.write(json.dumps(words) + "\n")
         self.journal.flush()
 
     def desk_port(self, front: bytes, hosts: tuple[str, ...]) -> Optional[bytes]:
-        """What is answered at the desk's port."""
+        """Answers at the desk's port."""
         asked = asked_of(front, hosts)
         if asked is None:
             return None
@@ -77,7 +78,7 @@ class Served:
         return told
 
     def air_port(self, front: bytes, hosts: tuple[str, ...]) -> Optional[bytes]:
-        """What is answered at the air port."""
+        """Answers at the air port."""
         before, told = self.door.had, served(front, self.door, hosts)
         if told is not None and self.door.had > before:
             body = decided(front, hosts)
@@ -87,7 +88,7 @@ class Served:
 
 
 def serve(ports: list[tuple[socket.socket, Serves]]) -> None:
-    """Answers one request of each connection, for ever."""
+    """Answers one request per connection, for ever."""
     waiting = selectors.DefaultSelector()
     for listener, serves in ports:
         waiting.register(listener, selectors.EVENT_READ, serves)

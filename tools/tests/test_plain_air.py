@@ -1,5 +1,5 @@
-"""A plain desk in the air: what is written of it by hand, what its front end posts, the shortest runs in which an air breaks the promise, and random scripts over an
-air that loses, with a far side of its own. Where the program knows such desks, it answers the scripts as the plain one does; else that is not tried.
+"""A plain desk in the air: cases by hand, posts of a front end, the shortest runs in which an air breaks the promise, and random scripts over an
+air that loses. The program answers the scripts as the plain desk does; that is not tried while the program knows no desk in the air.
 """
 import subprocess
 import tempfile
@@ -17,19 +17,20 @@ from model.facts import AIR_TESTS, AIRBORNE, LONGEST_BODY, MOST_HISTORY, REHEARS
 from model.http import hosts_of
 from model.profiles import Profile, profile_text
 from model.rows import Move
+from model.wall import board_page
 from tests.air_cases import Played, deeds
 from tests.air_runs import RUNS, broken
 from tests.asked import ASKED
 from tests.runs import Tried, write_lines
 
 EACH = 3  # scripts of each style
-LEAST = {"confirmed": 500, "accepted": 600, "ok frame ad": 900, "ok frame setvr": 100, "ok frame unlock": 50, "ok passed": 50, "ok unknown": 200, "alert T1": 20,
-         "alert LIMIT": 2, "alert TERM": 150, "alert NN(R)": 20, "alert SYNCH": 5, "initiate": 250, "quiet": 250, "refused 1": 200, "refused 2": 30, "refused 11": 100,
-         "refused 12": 200, "refused 19": 40, "refused 22": 80}
+LEAST = {"confirmed": 500, "accepted": 600, "ok frame ad": 900, "ok frame setvr": 100, "ok frame unlock": 50, "ok passed": 50, "ok unknown": 200,
+         "alert T1": 20, "alert LIMIT": 2, "alert TERM": 150, "alert NN(R)": 20, "alert SYNCH": 5, "initiate": 250, "quiet": 250, "refused 1": 200,
+         "refused 2": 30, "refused 11": 100, "refused 12": 200, "refused 19": 40, "refused 22": 80}
 
 
 class Found(NamedTuple):
-    """What came of a script."""
+    """The outcome of a script."""
     fault: str
     lines: int
     posts: int
@@ -39,8 +40,9 @@ class Found(NamedTuple):
 # ---- scripts
 
 def post_fault(writer: AirWriter) -> tuple[str, int]:
-    """Whether another desk, whose front end posts its items, is answered the same and ends as the first; and how many bodies that were. Each body comes twice, and
-    one of another service comes before it."""
+    """Plays a script on another desk, whose front end posts its items. Returns a difference, if any, and how many bodies were posted.
+
+    Each body comes twice, and one of another service comes before it."""
     desk = AirDesk(writer.profile)
     door, posts = Door(desk), 0
     asked = [(line.split(" ", 2), told) for line, told in zip(writer.lines, writer.wanted)]
@@ -62,13 +64,13 @@ def post_fault(writer: AirWriter) -> tuple[str, int]:
 
 
 def has_air(program: str) -> bool:
-    """Whether the program knows a desk in the air."""
+    """Returns true if the program knows a desk in the air."""
     ran = subprocess.run([program, "help", "run"], stdin=subprocess.DEVNULL, capture_output=True, text=True, timeout=60, check=False)
     return "--air" in ran.stdout
 
 
 def program_fault(program: str, writer: AirWriter) -> str:
-    """The first line that the program answers otherwise."""
+    """Returns the first line that the program answers otherwise, if any."""
     with tempfile.TemporaryDirectory(prefix="air-") as folder:
         write_lines(f"{folder}/script.tc", writer.lines)
         write_lines(f"{folder}/link.profile", profile_text(writer.profile).splitlines())
@@ -83,7 +85,7 @@ def program_fault(program: str, writer: AirWriter) -> str:
 
 
 def play(program: Optional[str], job: tuple[int, str]) -> Found:
-    """One script: judged by a bystander, posted, and run by the program if there is one."""
+    """Plays a script: a bystander judges it, it is posted, and the program runs it if there is one."""
     writer = written(*job)
     fault, posts = post_fault(writer)
     fault = writer.bystander.fault or fault or (program_fault(program, writer) if program else "")
@@ -103,13 +105,14 @@ class PlainAir(Tried):
         with ProcessPoolExecutor(4) as pool:
             found = list(pool.map(partial(play, program), jobs))
         seen: Counter[str] = sum((it.seen for it in found), Counter())
-        print(f"plain air: {len(jobs)} scripts of {sum(it.lines for it in found)} lines, {sum(it.posts for it in found)} bodies; {seen['accepted']} accepted far away,"
-              f" {seen['confirmed']} confirmed, {seen['initiate']} starts, {sum(seen[it] for it in seen if it.startswith('alert'))} alerts")
+        print(f"plain air: {len(jobs)} scripts of {sum(it.lines for it in found)} lines, {sum(it.posts for it in found)} bodies;"
+              f" {seen['accepted']} accepted far away, {seen['confirmed']} confirmed, {seen['initiate']} starts,"
+              f" {sum(seen[it] for it in seen if it.startswith('alert'))} alerts")
         few = [f"only {seen[it]} of {it}" for it, least in LEAST.items() if seen[it] < least] if ASKED.is_whole else []
         self.no_faults([it.fault for it in found if it.fault] + few)
 
     def test_written(self) -> None:
-        """What is written by hand: lines, bodies and openings."""
+        """The cases by hand: lines, bodies and openings."""
         played, faults, all_deeds = Played(), [], deeds("pass")
         for it in all_deeds:
             told = played.does(it)
@@ -117,8 +120,20 @@ class PlainAir(Tried):
         print(f"plain air: {len(all_deeds)} deeds that are written by hand")
         self.no_faults(faults)
 
+    def test_board(self) -> None:
+        """The board and the report of a desk in the air say so, and show the far side as it was heard."""
+        desk = AirDesk(Profile())
+        self.assertIn("<dd>unheard</dd>", board_page(desk, False).decode())
+        for line in ("0 front quiet", "0 ann initiate none", "0 front hear 010c3205"):
+            desk.line(line)
+        page = board_page(desk, False).decode()
+        for part in ("premise air</p>", '<p class="none">as heard</p>', "<dd>as heard</dd>", "<dt>V(R)</dt><dd>5</dd>", "<dt>FARM-B</dt><dd>1</dd>",
+                     ">Lockout Wait </dd>", "<dd>1.1</dd>"):
+            self.assertIn(part, page)
+        self.assertIn("premise air", desk.line("0 ann report 0 1"))
+
     def test_runs(self) -> None:
-        """The shortest runs: each breaks what it breaks, and where a rule of the front end keeps it away, nothing is broken."""
+        """The shortest runs: each breaks its part of the promise, and nothing is broken if the front end keeps the rule."""
         for run in RUNS:
             with self.subTest(run.air):
                 self.assertEqual(run.breaks, broken(run)[0])
@@ -128,10 +143,10 @@ class PlainAir(Tried):
 
 
 class AirPort(Tried):
-    """What is posted."""
+    """The air port."""
 
     def answered(self, body: bytes, desk: Optional[AirDesk] = None) -> Answer:
-        """What a body is answered by a new desk, or by this one."""
+        """Answers a body by a new desk, or by this one."""
         return Door(desk or AirDesk(Profile())).post(body)
 
     def test_limits(self) -> None:
@@ -147,13 +162,15 @@ class AirPort(Tried):
         count = (LONGEST_BODY - len(head)) // len(summary)
         self.assertEqual(200, self.answered(head + summary * count).status)
         self.assertEqual(too_long, self.answered(head + summary * (count + 1)))
-        for body in (b"", b"\n", head[:-1], head + b"tick", head + b"tick\r\n", head.replace(b" ", b"  ", 1), head.replace(b"1.0", b"1"), head.replace(b"1.0", b"1.0.0"),
-                     head.replace(b"1.0", b"4294967296.0"), head + b"hear tm 11,13 - 65" + names + b" 2/0 0\n", head + b"hear tm 11,13 - 1 1/0\n",
-                     head + b"initiate none\n", head + b"places\n", b"tick\n", head + head, head + b"hear tm 1,1 1/0 step 0 code 0 \n", head + b"\xff\n"):
+        for body in (b"", b"\n", head[:-1], head + b"tick", head + b"tick\r\n", head.replace(b" ", b"  ", 1), head.replace(b"1.0", b"1"),
+                     head.replace(b"1.0", b"1.0.0"), head.replace(b"1.0", b"4294967296.0"), head + b"hear tm 11,13 - 65" + names + b" 2/0 0\n",
+                     head + b"hear tm 11,13 - 1 1/0\n",
+                     head + b"initiate none\n", head + b"places\n", b"tick\n", head + head, head + b"hear tm 1,1 1/0 step 0 code 0 \n",
+                     head + b"\xff\n"):
             self.assertEqual(bad, self.answered(body), body)
 
     def test_full(self) -> None:
-        """With a full history a tick and what is heard are refused 18, and nothing else is."""
+        """A full history refuses ticks, words and reports with 18, and nothing else."""
         desk = AirDesk(Profile())
         for line in ("0 ann enter 5 ---- no 8 1 - - ok", "0 bob approve 1"):
             desk.line(line)
@@ -163,7 +180,7 @@ class AirPort(Tried):
         self.assertEqual([*4 * [Refusal.DESK_FULL.line], "ok nothing", "ok"], told.lines[1:])
 
     def test_sides(self) -> None:
-        """What a desk of each kind refuses 12, whatever else stands against it; and what is never posted as an act."""
+        """The acts that a desk of each kind refuses 12, and those that are never posted as acts."""
         spelled = {"clock": "clock 5", "loseup": "loseup 0", "losedown": "losedown 0", "hear": "hear 010c0001"}
         for word in REHEARSED:
             self.assertEqual([Refusal.BAD_DIRECTIVE.line], AirDesk(Profile()).line(f"0 ann {spelled.get(word, word)}"))
@@ -182,8 +199,10 @@ class AirPort(Tried):
         wanted = b"HTTP/1.1 200 OK\r\nContent-Type: text/plain\r\nContent-Length: %d\r\nConnection: close\r\n\r\n" % len(lines) + lines
         self.assertEqual(wanted, served(good, Door(AirDesk(Profile())), hosts))
         for change, status, refusal in (((b"POST /air", b"GET /air"), 405, Refusal.BAD_TEXT), ((b"/air", b"/acts"), 404, Refusal.BAD_TEXT),
-                                        ((b"8081", b"8080"), 403, Refusal.BAD_TEXT), ((b"Host", b"Origin: http://evil.example\r\nHost"), 403, Refusal.BAD_TEXT),
-                                        ((b"h: %d" % len(body), b"h: 65537"), 413, Refusal.TOO_LONG), ((b"Content-Length", b"Content-Size"), 400, Refusal.BAD_TEXT)):
+                                        ((b"8081", b"8080"), 403, Refusal.BAD_TEXT),
+                                        ((b"Host", b"Origin: http://evil.example\r\nHost"), 403, Refusal.BAD_TEXT),
+                                        ((b"h: %d" % len(body), b"h: 65537"), 413, Refusal.TOO_LONG),
+                                        ((b"Content-Length", b"Content-Size"), 400, Refusal.BAD_TEXT)):
             told = served(good.replace(*change, 1), Door(AirDesk(Profile())), hosts)
             self.assertEqual(response(Answer(status, [refusal.line])), told, change)
 
