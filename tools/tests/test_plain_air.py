@@ -19,6 +19,7 @@ from model.profiles import Profile, profile_text
 from model.rows import Move
 from model.wall import board_page
 from tests.air_cases import Played, deeds
+from tests.air_front import Front
 from tests.air_runs import RUNS, broken
 from tests.asked import ASKED
 from tests.runs import Tried, write_lines
@@ -140,6 +141,41 @@ class PlainAir(Tried):
                 if run.kept_by in ("check", "count"):
                     self.assertEqual(None, broken(run, run.kept_by)[0])
         print(f"plain air: {len(RUNS)} shortest runs")
+
+
+class FrontEnd(Tried):
+    """The plain front end of the tests keeps its premises."""
+
+    def test_quiet_and_words(self) -> None:
+        """It posts `quiet` one round trip after its start, and after its last frame; it drops what comes within the first round trip of a service."""
+        desk, flown, trip = AirDesk(Profile()), list[bytes](), 5
+        door = Door(desk)
+        front = Front(lambda body: door.post(body.encode()).lines, flown.append, trip)
+
+        def steps_to_quiet() -> int:
+            """Steps until the desk has the front end's word, and returns how many steps that took."""
+            before = front.now
+            while not desk.link.is_quiet:
+                front.step(0)
+            return front.now - before
+
+        self.assertEqual(trip + 1, steps_to_quiet())
+        for line in ("0 ann enter 5 ---- no 8 1 - - ok", "0 bob approve 1", "0 ann initiate none", "0 ann release 1"):
+            self.assertTrue(desk.line(line)[0].startswith("ok"), line)
+        for _ in range(2):
+            front.step(0)
+        self.assertEqual(1, len(flown))
+        for count in range(trip - 1):  # the service was seen one step ago
+            front.hears(count, ["010c0001"])
+            front.step(0, False)
+        self.assertEqual((trip - 1, Place.SENT), (front.dropped, desk.book.place(1)))
+        front.hears(2, ["010c0001"])
+        front.hears(trip, ["010c0001"])
+        front.step(0, False)
+        self.assertEqual((trip, Place.CONFIRMED), (front.dropped, desk.book.place(1)))
+        front.flew = front.now
+        desk.line("0 ann terminate")
+        self.assertEqual(trip + 1, steps_to_quiet())
 
 
 class AirPort(Tried):
