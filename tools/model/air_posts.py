@@ -81,6 +81,7 @@ class Door:
     def __init__(self, desk: AirDesk) -> None:
         """Makes the port of an opening."""
         self.desk, self.had, self.done = desk, 0, 0
+        self.check = check_of(desk.profile)
 
     def post(self, body: bytes) -> Answer:
         """Answers a body."""
@@ -109,8 +110,8 @@ class Door:
     def head(self) -> str:
         """Returns the first line of an answer."""
         link = self.desk.link
-        quiet, check = "yes" if link.is_quiet else "no", check_of(self.desk.profile)
-        return f"air {service_text(link.service)} had {self.had} state {link.fop.state} queue {len(link.up)} quiet {quiet} profile {check:04x}"
+        quiet = "yes" if link.is_quiet else "no"
+        return f"air {service_text(link.service)} had {self.had} state {link.fop.state} queue {len(link.up)} quiet {quiet} profile {self.check:04x}"
 
 
 # ---- its HTTP
