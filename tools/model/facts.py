@@ -159,6 +159,7 @@ class Refusal(IntEnum):
     TOO_LONG = 17
     DESK_FULL = 18
     BAD_ACTIVITY = 19
+    UNFLYABLE = 22
     MEMORY = 30
     STORE = 31
     STOPPED = 32
@@ -197,6 +198,12 @@ TESTS: dict[str, tuple[Refusal, ...]] = {
     "history": (Refusal.UNKNOWN_REQUEST,), "request": (Refusal.UNKNOWN_REQUEST,), "log": (Refusal.UNKNOWN_PROCEDURE,),
     "steps": (Refusal.UNKNOWN_PROCEDURE,),
 }
+# What a desk in the air refuses besides, and where: 22 stands behind 19 of its text, and before what hangs on the rest of the desk.
+REHEARSED = ("up", "loseup", "losedown", "clcw", "down", "work", "clock")  # refused 12 in the air
+AIRBORNE = ("transmit", "hear", "quiet")  # refused 12 in a rehearsal, and wherever they are posted as acts
+AIR_TESTS: dict[str, tuple[Refusal, ...]] = {
+    **{it: (Refusal.BAD_DIRECTIVE,) for it in REHEARSED}, "enter": (Refusal.UNFLYABLE,), "stack": (Refusal.UNFLYABLE,), "release": (Refusal.UNFLYABLE,),
+    "hear": (Refusal.DESK_FULL,), "quiet": (Refusal.BAD_DIRECTIVE,)}
 # The statuses of answers by HTTP, and the phrase of each; all refusals that are not named have 409.
 STATUSES = {Refusal.BAD_TEXT: 400, Refusal.UNKNOWN_REQUEST: 404, Refusal.UNKNOWN_STACK: 404, Refusal.UNKNOWN_PROCEDURE: 404, Refusal.TOO_LONG: 413,
             Refusal.MEMORY: 503, Refusal.STORE: 503, Refusal.STOPPED: 503}
@@ -282,6 +289,7 @@ MARK = b"\xef\xbb\xbf"  # one at the very front is dropped
 # ---- the tables
 
 SCHEMA_VERSION = 3  # of a new desk, and of each that was opened
+AIR_VERSION = 4  # of a desk in the air: the same tables, and one row more in `meta`
 # The statements that make them, in order.
 SCHEMA = """\
 CREATE TABLE meta (name TEXT PRIMARY KEY, value INTEGER NOT NULL) STRICT

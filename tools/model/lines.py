@@ -2,12 +2,13 @@
 is written from the requirements, and asks the program nothing.
 """
 import re
-from typing import Any, Callable, Iterable, NamedTuple, Optional
+from typing import Any, Callable, Iterable, NamedTuple, Optional, Union
 
-from model.facts import (LAST_APID, LAST_K, LAST_KIND, LAST_LIMIT, LAST_MOMENT, LAST_NUMBER, LAST_T1, LONGEST_ACT, MOST_INSERTED, NAME, OUTCOMES,
+from model.facts import (COUNTS, LAST_APID, LAST_K, LAST_KIND, LAST_LIMIT, LAST_MOMENT, LAST_NUMBER, LAST_T1, LONGEST_ACT, MOST_INSERTED, NAME, OUTCOMES,
                          PLACE_WORDS, SCHEDULE, THE_DESK, VERDICTS, Refusal, Subtype)
+from model.packets import FAILURES, MOST_SUMMARIZED, STEPS, Summary, Told, Verification
 from model.refused import Refused, need
-from model.request import Form, takes_target, takes_time
+from model.request import Form, Identity, takes_target, takes_time
 
 NUMBER = re.compile("0|[1-9][0-9]{0,9}")
 LOAD = re.compile("(stack|procedure) ")
@@ -142,13 +143,65 @@ def check_targets(command: Form, named: Iterable[Form]) -> None:
     need(is_once and all(it.is_plain() and (it.asks("a") or not is_insert) for it in named), Refusal.BAD_ACTIVITY)
 
 
+# ---- what is heard from the air
+
+WORD = re.compile("[0-9a-f]{8}")
+STATUSES = {"enabled": True, "disabled": False, "-": None}
+
+
+def identity(word: str) -> Identity:
+    """A name on board."""
+    parts = word.split("/")
+    need(len(parts) == 2)
+    return Identity(number(parts[0], 0, LAST_APID), number(parts[1], 0, COUNTS - 1))
+
+
+def verification(subtype: int, words: list[str]) -> Verification:
+    """A report of verification: its step and its code are 0 where its subtype has none."""
+    need(len(words) == 5 and words[1::2] == ["step", "code"])
+    step, code = number(words[2], 0, 255 if subtype in STEPS else 0), number(words[4], 0, 255 if subtype in FAILURES else 0)
+    return Verification(subtype, identity(words[0]), step if subtype in STEPS else None, code if subtype in FAILURES else None)
+
+
+def summary(words: list[str]) -> Summary:
+    """A summary of the schedule, with a time for each name."""
+    need(len(words) >= 2 and words[0] in STATUSES)
+    names, times = words[2::2], words[3::2]
+    need(len(names) == len(times) == number(words[1], 0, MOST_SUMMARIZED))
+    made = Summary(STATUSES[words[0]], tuple(zip(map(moment, times), map(identity, names))))
+    need(len({name for _, name in made.activities}) == len(names))
+    return made
+
+
+def heard(words: list[str]) -> Union[int, Told]:
+    """What was heard: a control word, or a report."""
+    if len(words) == 1:
+        need(WORD.fullmatch(words[0]))
+        return int(words[0], 16)
+    need(len(words) > 1 and words[0] == "tm")
+    if words[1] == "11,13":
+        return summary(words[2:])
+    need(re.fullmatch("1,[1-8]", words[1]))
+    return verification(int(words[1][2:]), words[2:])
+
+
+def heard_text(told: Union[int, Told]) -> str:
+    """How it is spelled, behind `hear`."""
+    if isinstance(told, int):
+        return f"{told:08x}"
+    if isinstance(told, Verification):
+        return f"tm 1,{told.subtype} {told.request} step {told.step or 0} code {told.code or 0}"
+    status = next(word for word, value in STATUSES.items() if value is told.enabled)
+    return " ".join([f"tm 11,13 {status} {len(told.activities)}", *(f"{name} {at}" for at, name in told.activities)])
+
+
 # ---- acts
 
 BYTE = between(0, 255)
 SHAPES: dict[str, tuple[Reader, ...]] = {
     "withdraw": (number,), "approve": (number,), "approvestack": (name,), "release": (number,), "close": (number,), "begin": (name,),
     "step": (number, number, one_of(*VERDICTS), second), "terminate": (), "tick": (), "up": (), "loseup": (number,),
-    "losedown": (number,), "clcw": (), "down": (), "work": (), "clock": (moment,), "places": (), "history": (number, number),
+    "losedown": (number,), "clcw": (), "down": (), "work": (), "clock": (moment,), "transmit": (), "quiet": (), "places": (), "history": (number, number),
     "request": (number,), "link": (), "schedule": (), "log": (number,), "report": (moment, moment),
     "waiting": (), "urgent": (number,), "moves": (number,), "standing": (one_of(*PLACE_WORDS), number), "steps": (name,),
     "initiate none": (), "initiate check": (), "initiate unlock": (), "initiate setvr": (BYTE,),
@@ -162,6 +215,8 @@ def read_act(text: str) -> Act:
     if words[0] == "enter":
         need(len(words) == 9)
         return Act("enter", (form(words[1:], "-", moment, number),))
+    if words[0] == "hear":
+        return Act("hear", (heard(words[1:]),))
     head = 2 if words[0] in ("initiate", "set") else 1
     word, rest = " ".join(words[:head]), words[head:]
     shape = SHAPES.get(word)

@@ -6,10 +6,11 @@ import os
 from collections import Counter
 from typing import AbstractSet, Iterable, Iterator, Mapping, NamedTuple, Optional, Sequence
 
+from model.air import AirLink, service_text
 from model.book import Book
 from model.desk import Desk
 from model.facts import FINAL, Place, cause_word, place_word
-from model.farm import OPEN
+from model.farm import FARM_B_SHIFT, FLAG_BITS, OPEN
 from model.link import Link
 from model.report import time_of
 from model.request import Request
@@ -222,6 +223,9 @@ def link_values(link: Link) -> Iterator[str]:
     yield told("timer", f"{fop.timer} of {fop.t1}")
     yield told("V(S)", f"{fop.vs}")
     yield told("NN(R)", f"{fop.nn}")
+    if isinstance(link, AirLink):
+        yield from air_values(link)
+        return
     yield told("FARM", farm.state, "" if farm.state == OPEN else farm.state)
     yield told("V(R)", f"{farm.vr}")
     yield told("FARM-B", f"{farm.b}")
@@ -229,6 +233,21 @@ def link_values(link: Link) -> Iterator[str]:
     yield told("flags", flags or "none", "Wait" if flags else "")
     yield told("W", f"{farm.window}")
     yield told("flies", f"{len(link.up)} up, {len(link.down)} down")
+
+
+def air_values(link: AirLink) -> Iterator[str]:
+    """What is known of the far side, and what waits for the front end."""
+    heard = link.heard
+    yield told("FARM", "unheard" if heard is None else "as heard")
+    if heard is not None:
+        yield told("V(R)", f"{heard & 0xff}")
+        yield told("FARM-B", f"{heard >> FARM_B_SHIFT & 3}")
+        flags = "".join(f"{name} " for name, bit in FLAG_BITS.items() if heard & bit)
+        yield told("flags", flags or "none", "Wait" if flags else "")
+    yield told("queue", f"{len(link.up)}")
+    yield told("quiet", "yes" if link.is_quiet else "no")
+    yield told("service", service_text(link.service))
+    yield told("unknown", f"{link.unknown}")
 
 
 def link_section(link: Link, closed: bool) -> Iterator[str]:
@@ -248,6 +267,8 @@ def schedule_section(desk: Desk, closed: bool) -> Iterator[str]:
     if closed:
         yield '<p class="none">closed</p>\n</section>\n'
         return
+    if isinstance(desk.link, AirLink):
+        yield '<p class="none">as heard</p>\n'
     found = desk.mirror.activities()
     yield f'<p class="none"><b>{"enabled" if desk.mirror.is_enabled else "disabled"}</b>, activities: {len(found)}</p>\n<ul>\n'
     for time, identity, _ in found[:MOST_SHOWN_ACTIVITIES]:
