@@ -1,11 +1,11 @@
 -- The control word by / and %: its fields joined by |, one mask for the bits that count, and a word from its fields.
-use Rattle.std.proofs.Common.{◌≡◌, ℕ, ◌+◌, ◌*◌, ◌/◌, ◌%◌, ◌^◌, ◌<◌, ◌≤◌, Bool, true, false, arith, refl, sym, ap, ◌∙◌}
+use Rattle.std.proofs.Common.{◌≡◌, ℕ, ◌+◌, ◌*◌, ◌/◌, ◌%◌, ◌^◌, ◌<◌, ◌≤◌, Bool, true, false, Option, Some, None, arith, refl, sym, ap, ◌∙◌}
 use Rattle.std.specs.Int.{from_bool}
 use Rattle.std.specs.Prelude.{bit_and, bit_or}
 use Rattle.std.proofs.lemmas.Nat.{or_shifted, and_block, and_mask, shr_split, pow_pos, mod_below}
 use mathlib.Core.HLevel.{is_prop→PathP}
 use native.Mathlib.Bridge.{le_prop}
-use Rattle.tc_farm.specs.ControlWord.{field}
+use Rattle.tc_farm.specs.ControlWord.{field, word_of, IsReading}
 use Rattle.tc_farm.specs.declared.clcws.Clcw.{Clcw}
 
 -- one field goes below the others
@@ -105,3 +105,23 @@ same_clcw c d v l w r b n = λ i. record {
   vc_fits = is_prop→PathP (λ j. v j ≤ 63) (λ j. le_prop) c.vc_fits d.vc_fits i;
   farm_b_fits = is_prop→PathP (λ j. b j ≤ 3) (λ j. le_prop) c.farm_b_fits d.farm_b_fits i;
 }
+
+-- two control words that are spelled alike are one
+pub same_word : (c d : Clcw) → c.report < 2 ^ 8 → d.report < 2 ^ 8 → word_of c ≡ word_of d → c ≡ d
+same_word c d small less same =
+    let one =
+    split (word_of d) c.vc (from_bool c.lockout) (from_bool c.wait) (from_bool c.retransmit) c.farm_b c.report
+    c.vc_fits (from_bool_le _) (from_bool_le _) (from_bool_le _) c.farm_b_fits small (sym same) in
+    let other =
+    split (word_of d) d.vc (from_bool d.lockout) (from_bool d.wait) (from_bool d.retransmit) d.farm_b d.report
+    d.vc_fits (from_bool_le _) (from_bool_le _) (from_bool_le _) d.farm_b_fits less refl in
+    same_clcw c d (sym one.channel ∙ other.channel) (from_bool_same _ _ (sym one.lockout ∙ other.lockout))
+    (from_bool_same _ _ (sym one.wait ∙ other.wait)) (from_bool_same _ _ (sym one.retransmit ∙ other.retransmit))
+    (sym one.farm_b ∙ other.farm_b) (sym one.report ∙ other.report)
+
+-- two readings of one word on one channel are one
+pub one_reading : (word vc : ℕ) (a b : Option Clcw) → IsReading word vc a → IsReading word vc b → a ≡ b
+one_reading word vc None None of on = refl
+one_reading word vc None (Some d) of on = let there = of.valid.1 (on.valid.0 refl) in cc
+one_reading word vc (Some c) None of on = let there = on.valid.1 (of.valid.0 refl) in cc
+one_reading word vc (Some c) (Some d) of on = ap (λ (x : Clcw). Some x) (same_word c d of.range on.range (of.back ∙ sym on.back))

@@ -23,7 +23,7 @@ pub struct Clcw {
 impl Clcw {
     ghost use Rattle.std.specs.Prelude.{◌≡◌, ◌≤◌, ◌<◌, ◌+◌, ◌^◌, ◌↔◌, IsSome, IfSome};
     ghost use Rattle.std.specs.Int.{from_bool};
-    ghost use Rattle.tc_farm.specs.ControlWord.{field, IsValid, word_of, without_ignored, IsMoved};
+    ghost use Rattle.tc_farm.specs.ControlWord.{field, is_ours, IsValid, word_of, without_ignored, IsMoved};
 
     /// So many bits of a word, from this one on.
     fn bits(word: u32, low: u32, width: u32) -> u32
@@ -82,6 +82,21 @@ impl Clcw {
             farm_b: Clcw::bits(word, 9, 2) as u8,
             report: Clcw::bits(word, 0, 8) as u8,
         })
+    }
+
+    /// Returns whether a word is a control word of this virtual channel: its control word type is 0, and the channel is this one.
+    /// `read` returns `None` for such a word too, if its version or its COP in effect is another.
+    pub fn is_ours(word: u32, vc: u8) -> bool
+        ensures { result ≡ is_ours word vc }
+    {
+        Clcw::bits(word, 31, 1) == 0 && Clcw::bits(word, 18, 6) == u32::from(vc)
+    }
+
+    /// Returns the word with its ignored bits 0: status, spares, No RF Available and No Bit Lock.
+    pub fn used(word: u32) -> u32
+        ensures { result ≡ without_ignored word }
+    {
+        word & 0xe3fc_3eff
     }
 
     /// The same control word on another virtual channel; `None` where there is no such channel, which is above 63.

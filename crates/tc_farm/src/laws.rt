@@ -1,9 +1,11 @@
-//! What the table says, in the words of frames. This function does nothing: its clause is the law.
-ghost use Rattle.std.specs.Prelude.{◌≡◌, ◌⊎◌, ◌+◌, ◌/◌, ◌%◌, ◌<◌, ℕ, Bool, true, false};
+//! What the table says, in the words of frames, and what a reading of a control word is. These functions do nothing: their clauses are the laws.
+ghost use Rattle.std.specs.Prelude.{◌≡◌, ◌⊎◌, ◌+◌, ◌/◌, ◌%◌, ◌<◌, ℕ, Bool, Option, true, false};
 ghost use Rattle.tc_types.specs.declared.link.frames.Frame.TheVariants.{Ad};
 ghost use Rattle.tc_types.specs.declared.link.telecommands.Payload.{Payload};
 ghost use Rattle.tc_types.specs.declared.link.frames.Frame.{Frame};
+ghost use Rattle.tc_farm.specs.declared.clcws.Clcw.{Clcw as SomeWord};
 ghost use Rattle.tc_farm.specs.declared.farms.FarmView.{FarmView};
+ghost use Rattle.tc_farm.specs.ControlWord.{IsReading};
 ghost use Rattle.tc_farm.specs.Farm.{IsFarm, distance, farm_after, verdict_of};
 ghost use Rattle.tc_farm.specs.FarmLaws.{IsNumbered, Says};
 
@@ -17,4 +19,10 @@ pub fn frames_in_order()
 /// in the window.
 pub fn asks_ahead()
     ensures { (farm : FarmView) (ns request : ℕ) (body : Payload) (free_buffer : Bool) → IsFarm farm → (((farm_after farm (Ad ns request body) free_buffer).vr ≡ (farm.vr + 1) % 256) × ((farm_after farm (Ad ns request body) free_buffer).retransmit ≡ false)) ⊎ (((farm_after farm (Ad ns request body) free_buffer).vr ≡ farm.vr) × ((farm_after farm (Ad ns request body) free_buffer).retransmit ≡ true → (farm.retransmit ≡ true) ⊎ (distance ns farm.vr < farm.window / 2)) × (farm.retransmit ≡ true → (farm_after farm (Ad ns request body) free_buffer).retransmit ≡ true)) }
+{}
+
+/// Two readings of one word on one virtual channel are one, so `Clcw::read` is a function of the word and the channel.
+#[tactic(auto, using(crate::proofs::WordLemmas::one_reading))]
+pub fn one_reading()
+    ensures { (word vc : ℕ) (a b : Option SomeWord) → IsReading word vc a → IsReading word vc b → a ≡ b }
 {}

@@ -19,6 +19,7 @@ use Rattle.tc_types.specs.Numbers.{IsMoment}
 use Rattle.tc_types.specs.Names.{IsName, IsPerson}
 use Rattle.tc_types.specs.Lines.{spaced, place_name}
 use Rattle.tc_types.specs.LinkGrammar.{link_act_words, IsLinkAct}
+use Rattle.tc_types.specs.AirGrammar.{air_act_words, IsAirAct}
 use Rattle.tc_types.specs.StepGrammar.{verdict_word, second_word, IsSecond}
 use Rattle.tc_types.specs.Grammar.{entry_words, IsEntry}
 
@@ -87,6 +88,7 @@ IsStepAct given = IsNumber given.execution × IsNumber given.step × IsSecond gi
 abbrev pub act_words : Act → List (List ℕ)
 act_words (act.Book given) = book_act_words given
 act_words (act.Link given) = link_act_words given
+act_words (act.Air given) = air_act_words given
 act_words (act.Step given) = step_words given
 act_words (act.Ask asked) = query_words asked
 
@@ -94,6 +96,7 @@ act_words (act.Ask asked) = query_words asked
 abbrev pub IsAct : Act → Type 0
 IsAct (act.Book given) = IsBookAct given
 IsAct (act.Link given) = IsLinkAct given
+IsAct (act.Air given) = IsAirAct given
 IsAct (act.Step given) = IsStepAct given
 IsAct (act.Ask asked) = IsQuery asked
 

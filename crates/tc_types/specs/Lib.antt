@@ -9,12 +9,17 @@ pub mod Images
 pub mod Lines
 pub mod Schedule
 pub mod Inserts
+pub mod Heard
 pub mod Verbs
 pub mod LinkGrammar
 pub mod LinkLines
+pub mod AirGrammar
+pub mod AirLines
 pub mod StepGrammar
 pub mod Grammar
 pub mod ActGrammar
+pub mod PostGrammar
+pub mod AirPort
 pub mod RequestLine
 pub mod ProcedureLines
 pub mod Words

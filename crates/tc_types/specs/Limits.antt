@@ -1,7 +1,7 @@
 -- The desk's limits, each by one name: the constants of the source.
 use Rattle.std.specs.Prelude.{ℕ}
 use Rattle.tc_types.specs.declared.link.activities.TheConstants.{MOST_ACTIVITIES}
-use Rattle.tc_types.specs.declared.limits.TheConstants.{LONGEST_ACT, MOST_STACKS, MOST_STACK_ROWS, MOST_PROCEDURES, MOST_STEPS, MOST_EXECUTIONS, MOST_MOVES, PAGE}
+use Rattle.tc_types.specs.declared.limits.TheConstants.{LONGEST_ACT, LONGEST_POST, MOST_ITEMS, MOST_STACKS, MOST_STACK_ROWS, MOST_PROCEDURES, MOST_STEPS, MOST_EXECUTIONS, MOST_MOVES, PAGE}
 use Rattle.tc_types.specs.declared.names.TheConstants.{LONGEST_NAME}
 use Rattle.tc_types.specs.declared.numbers.TheConstants.{LARGEST_MOMENT, MOST_REQUESTS}
 use Rattle.tc_types.specs.declared.step_texts.TheConstants.{LONGEST_STEP_TEXT}
@@ -52,3 +52,10 @@ longest_name = LONGEST_NAME
 
 abbrev pub longest_step_text : ℕ
 longest_step_text = LONGEST_STEP_TEXT
+
+-- bytes of a post of a front end, and its items
+abbrev pub longest_post : ℕ
+longest_post = LONGEST_POST
+
+abbrev pub most_items : ℕ
+most_items = MOST_ITEMS

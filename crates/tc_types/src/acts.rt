@@ -1,4 +1,5 @@
 //! What a person can ask of the desk.
+use crate::air::AirAct;
 use crate::entries::Entry;
 use crate::history::places::Place;
 use crate::link::directives::Directive;
@@ -98,6 +99,8 @@ pub enum Act {
     Book(BookAct),
     /// An act on the link or on the spacecraft.
     Link(LinkAct),
+    /// An act of a front end, on a desk in the air.
+    Air(AirAct),
     /// A step of an execution is recorded, in the book, and on the link where it releases a request.
     Step(StepAct),
     /// A question.

@@ -1,11 +1,13 @@
 //! The words of the desk: requests, the places where they stand and the moves between them, acts and questions, refusals, and the rows of the desk's
 //! tables. How each is spelled, and which lines answer it, is defined here; `tc_lines` reads and prints by that.
 //!
-//! Every type here but `Counted`, `Targets` and `Image` is `Copy`, and none but `Image`, all rows of all tables, holds memory. A newtype
-//! keeps the range of its number, and a contract sees the number alone; a contract sees a `Name`, and a `Person`, as its bytes.
+//! Every type here but `Counted`, `Targets`, `Image` and `Post` is `Copy`. `Image`, all rows of all tables, and `Post`, a body of a front
+//! end, alone hold memory. A newtype keeps the range of its number, and a contract sees the number alone; a contract sees a `Name`, and a
+//! `Person`, as its bytes.
 #![tactic(auto)]
 
 mod acts;
+mod air;
 mod counted;
 mod entries;
 mod history;
@@ -26,6 +28,7 @@ mod verdicts;
 mod waits;
 
 pub use acts::{Act, BookAct, Line, LinkAct, Query, StepAct};
+pub use air::{AirAct, AirItem, AirService, Post, PostHead};
 pub use counted::Counted;
 pub use entries::Entry;
 pub use history::causes::Cause;
@@ -35,6 +38,7 @@ pub use history::places::{ALL_PLACES, PLACES, Place, is_among, is_same_place};
 pub use link::activities::{Activity, ListedActivity, MOST_ACTIVITIES, Summary};
 pub use link::directives::Directive;
 pub use link::frames::Frame;
+pub use link::heard::{HeardActivities, HeardActivity, HeardItem, HeardReport};
 pub use link::inserts::{Activities, MOST_INSERTED};
 pub use link::reports::{Report, Telemetry, Verification, stage_of};
 pub use link::telecommands::{Payload, ScheduleCommand, Task, Telecommand};

@@ -5,6 +5,12 @@ pub use crate::numbers::LARGEST_MOMENT;
 /// The most bytes that the text of an act has.
 pub const LONGEST_ACT: usize = 200;
 
+/// The most bytes that a post of a front end has.
+pub const LONGEST_POST: usize = 65_536;
+
+/// The most items that a post of a front end has.
+pub const MOST_ITEMS: usize = 256;
+
 /// The most stacks that are loaded.
 pub const MOST_STACKS: usize = 1_000;
 

@@ -2,6 +2,7 @@
 pub mod activities;
 pub mod directives;
 pub mod frames;
+pub mod heard;
 pub mod inserts;
 pub mod reports;
 pub mod telecommands;

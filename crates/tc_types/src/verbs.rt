@@ -43,6 +43,12 @@ pub enum Verb {
     Work,
     /// The spacecraft's time is set.
     Clock,
+    /// The first frame leaves the queue for the air.
+    Transmit,
+    /// Something came from the air.
+    Hear,
+    /// Nothing is in the air.
+    Quiet,
     /// How many requests stand at each place.
     Places,
     /// The moves of a request.
@@ -74,7 +80,7 @@ pub enum Verb {
 }
 
 /// All of them.
-pub const VERBS: [Verb; 33] = [
+pub const VERBS: [Verb; 36] = [
     Verb::Enter,
     Verb::Withdraw,
     Verb::Approve,
@@ -94,6 +100,9 @@ pub const VERBS: [Verb; 33] = [
     Verb::Down,
     Verb::Work,
     Verb::Clock,
+    Verb::Transmit,
+    Verb::Hear,
+    Verb::Quiet,
     Verb::Places,
     Verb::History,
     Verb::Request,
@@ -135,6 +144,9 @@ impl Verb {
             Verb::Down => "down",
             Verb::Work => "work",
             Verb::Clock => "clock",
+            Verb::Transmit => "transmit",
+            Verb::Hear => "hear",
+            Verb::Quiet => "quiet",
             Verb::Places => "places",
             Verb::History => "history",
             Verb::Request => "request",
