@@ -7,3 +7,6 @@ pub mod NumberLaws
 pub mod OneLine
 pub mod Spellings
 pub mod PlaceLemmas
+pub mod HeardLaws
+pub mod AirSpellings
+pub mod PortLaws

@@ -116,7 +116,8 @@ impl HeardActivities {
         if activities.len() > MOST_ACTIVITIES || has_name_twice(activities) {
             return None;
         }
-        let mut places = [nothing_heard()?; MOST_ACTIVITIES];
+        let filler = nothing_heard()?;
+        let mut places = [filler; MOST_ACTIVITIES];
         places[..activities.len()].copy_from_slice(activities);
         Some(HeardActivities {
             places,
