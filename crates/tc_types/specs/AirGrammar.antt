@@ -18,6 +18,14 @@ use Rattle.tc_types.specs.Heard.{AreHeard}
 use Rattle.tc_types.specs.Lines.{identity_word}
 use Rattle.tc_types.specs.LinkLines.{word_digits, status_word, verification_subtype, verification_step, verification_code}
 
+-- the two numbers of a name on board, which a slash parts
+abbrev pub name_parts : Identity → List (List ℕ)
+name_parts identity = decimal identity.apid ∷ decimal identity.count ∷ []
+
+-- the subtype, the step and the code of a report of verification
+abbrev pub verification_numbers : Verification → ℕ × ℕ × ℕ
+verification_numbers v = (verification_subtype v, verification_step v, verification_code v)
+
 -- 1,T
 abbrev pub subtype_word : Verification → List ℕ
 subtype_word v = codes "1," ++ decimal (verification_subtype v)

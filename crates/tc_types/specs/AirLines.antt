@@ -1,15 +1,16 @@
 -- The lines that answer a front end, as bytes without their LF.
-use Rattle.std.specs.Prelude.{ℕ, ◌-◌, Bool, false, List, [], ◌∷◌, ◌++◌, codes, length, replicate}
-use Rattle.std.specs.List.{flat_map}
-use Rattle.std.specs.Fmt.{decimal, digits}
+use Rattle.std.specs.Prelude.{ℕ, zero, suc, ◌/◌, ◌%◌, Bool, false, List, [], ◌∷◌, ◌++◌, codes}
+use Rattle.std.specs.List.{flat_map, join_with_byte}
+use Rattle.std.specs.Fmt.{decimal, digit_glyph}
 use Rattle.tc_types.specs.declared.requests.Identity.{Identity}
 use Rattle.tc_types.specs.declared.air.AirService.{AirService}
 use Rattle.tc_types.specs.Grammar.{yes_no}
 use Rattle.tc_types.specs.Lines.{identity_word, spaced}
 
--- so many digits, sixteen to a place, in lower case
+-- the last digits of a number, so many of them, sixteen to a place, in lower case
 abbrev pub hex_digits : ℕ → ℕ → List ℕ
-hex_digits count n = replicate (count - length (digits 16 false n)) 48 ++ digits 16 false n
+hex_digits zero n = []
+hex_digits (suc count) n = hex_digits count (n / 16) ++ digit_glyph false (n % 16) ∷ []
 
 -- octets, two digits each
 abbrev pub octets_word : List ℕ → List ℕ
@@ -35,9 +36,13 @@ passed_line = codes "ok passed"
 abbrev pub unknown_line : List ℕ
 unknown_line = codes "ok unknown"
 
+-- the two numbers of a service, which a point parts
+abbrev pub service_parts : AirService → List (List ℕ)
+service_parts service = decimal service.opening ∷ decimal service.start ∷ []
+
 -- OPENING.START
 abbrev pub service_word : AirService → List ℕ
-service_word service = decimal service.opening ++ 46 ∷ decimal service.start
+service_word service = join_with_byte 46 (service_parts service)
 
 -- how a desk stands after a post: its service, the last index had, the state of FOP-1 from 1, its queue, and the CRC-16 of its profile
 pub record Standing : Type 0 where

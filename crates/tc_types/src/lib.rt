@@ -38,7 +38,7 @@ pub use history::places::{ALL_PLACES, PLACES, Place, is_among, is_same_place};
 pub use link::activities::{Activity, ListedActivity, MOST_ACTIVITIES, Summary};
 pub use link::directives::Directive;
 pub use link::frames::Frame;
-pub use link::heard::{HeardActivities, HeardActivity, HeardItem, HeardReport};
+pub use link::heard::{HeardActivities, HeardActivity, HeardItem, HeardReport, nothing_heard};
 pub use link::inserts::{Activities, MOST_INSERTED};
 pub use link::reports::{Report, Telemetry, Verification, stage_of};
 pub use link::telecommands::{Payload, ScheduleCommand, Task, Telecommand};

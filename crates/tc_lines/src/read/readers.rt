@@ -1,11 +1,11 @@
 //! Words that are read as numbers, flags and outcomes. What is read has the word as its one spelling.
 ghost use Rattle.std.specs.Prelude.{◌≡◌, ◌≢◌, ◌<◌, ◌↔◌, ℕ, IsTrue, [], ◌∷◌, length, slice_index};
 ghost use Rattle.std.specs.Fmt.{decimal, signed_decimal};
-ghost use Rattle.tc_types.specs.Numbers.{IsMoment, IsOffset, IsApid, IsSteps, IsFailureCode, IsService, IsSubtype, IsCounter, IsWindow, IsTicks, IsTransmissionLimit};
+ghost use Rattle.tc_types.specs.Numbers.{IsMoment, IsOffset, IsApid, IsSequenceCount, IsSteps, IsFailureCode, IsService, IsSubtype, IsCounter, IsWindow, IsTicks, IsTransmissionLimit};
 ghost use Rattle.tc_types.specs.Grammar.{Reads, IsNumber, flag, ack_word, yes_no};
 
 use std::str;
-use tc_types::{Ack, Apid, FailureCode, Moment, Offset, Service, Steps, Subtype};
+use tc_types::{Ack, Apid, FailureCode, Moment, Offset, SequenceCount, Service, Steps, Subtype};
 
 /// Whether a word has no plus in front, and no zero that it could lack.
 fn is_plain(word: &[u8]) -> bool
@@ -52,6 +52,13 @@ pub fn apid(word: &[u8]) -> Option<Apid>
     Apid::new(u16::try_from(number(word)?).ok()?)
 }
 
+/// A packet sequence count.
+pub fn sequence_count(word: &[u8]) -> Option<SequenceCount>
+    ensures { Reads decimal IsSequenceCount word.now result }
+{
+    SequenceCount::new(u16::try_from(number(word)?).ok()?)
+}
+
 /// A number of 8 bits.
 fn byte(word: &[u8]) -> Option<u8>
     ensures { Reads decimal (λ n. n < 256) word.now result }
@@ -59,7 +66,7 @@ fn byte(word: &[u8]) -> Option<u8>
     u8::try_from(number(word)?).ok()
 }
 
-/// A counter of the link: 0 to 255.
+/// A number of 8 bits: a counter of the link, or a step or a code of a report.
 pub fn counter(word: &[u8]) -> Option<u8>
     ensures { Reads decimal IsCounter word.now result }
 {

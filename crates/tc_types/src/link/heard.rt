@@ -95,7 +95,7 @@ fn has_name_twice(activities: &[HeardActivity]) -> bool
 }
 
 /// Returns the activity that stands in the places after the last. Such a place tells nothing.
-fn nothing_heard() -> Option<HeardActivity>
+pub fn nothing_heard() -> Option<HeardActivity>
     ensures { result ≡ Some nothing_heard }
 {
     let apid = Apid::new(0)?;
