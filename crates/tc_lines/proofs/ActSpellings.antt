@@ -16,6 +16,7 @@ use Rattle.tc_types.specs.declared.acts.Line.{Line}
 use Rattle.tc_types.specs.Lines.{spaced, place_name}
 use Rattle.tc_types.specs.ActGrammar.{book_act_words, IsBookAct, step_words, IsStepAct, act_words, IsAct, act_text, SpellsLine, after_two, act_part, HasLongAct, line_words, IsLine}
 use Rattle.tc_types.specs.LinkGrammar.{directive_words, IsDirective, link_act_words, IsLinkAct}
+use Rattle.tc_types.specs.AirGrammar.{air_act_words}
 use Rattle.tc_types.specs.declared.acts.StepAct.{StepAct}
 use Rattle.tc_types.specs.declared.verdicts.Verdict.{Verdict}
 use Rattle.tc_types.specs.declared.history.places.Place.{Place}
@@ -25,6 +26,7 @@ use Rattle.tc_types.specs.StepGrammar.{verdict_word, second_word, IsSecond}
 use Rattle.tc_types.specs.Words.{words, words_left}
 use Rattle.tc_types.proofs.WordLaws.{lacks, words_joined, words_nonempty}
 use Rattle.tc_types.proofs.Spellings.{number_lacks, name_lacks, entry_lacks}
+use Rattle.tc_types.proofs.AirSpellings.{words_lack, air_act_dark}
 
 -- the words of an act on the book have no space
 book_act_parted : (a : BookAct) → IsBookAct a → (list_all (lacks 32) (book_act_words a) ≡ true) × (0 < length (book_act_words a))
@@ -96,6 +98,7 @@ place_lacks place.Closed = refl
 pub act_parted : (a : Act) → IsAct a → (list_all (lacks 32) (act_words a) ≡ true) × (0 < length (act_words a))
 act_parted (act.Book given) h = book_act_parted given h
 act_parted (act.Link given) h = link_act_parted given h
+act_parted (act.Air given) h = let dark = air_act_dark given h in (words_lack 32 (omega arith) (air_act_words given) dark.0, dark.1)
 act_parted (act.Step given) h = step_parted given h
 act_parted (act.Ask query.Places) h = (refl, omega arith)
 act_parted (act.Ask (query.History request after)) h = (rw (number_lacks request h.0, number_lacks after h.1) refl, omega arith)

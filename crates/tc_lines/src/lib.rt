@@ -1,5 +1,5 @@
-//! The lines of the desk, as bytes: acts, questions, loads and lines of scripts as they are read, and the lines that answer a person as they are
-//! printed. How each is spelled is a definition of `tc_types`.
+//! The lines of the desk, as bytes: acts, questions, loads, lines of scripts and posts of a front end as they are read, and the lines that
+//! answer a person as they are printed. How each is spelled is a definition of `tc_types`.
 #![tactic(auto)]
 
 pub mod print;
@@ -19,4 +19,5 @@ pub use print::texts::{approvals_text, entered_text, history_text, places_text, 
 pub use print::waiting_texts::{waiting_count_text, waiting_text};
 pub use read::act_reader::read_act;
 pub use read::line_reader::read_line;
+pub use read::post_reader::read_post;
 pub use read::words::cut;

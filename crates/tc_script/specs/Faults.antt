@@ -9,6 +9,7 @@ use Rattle.tc_script.specs.declared.faults.LineFault.TheVariants as fault
 use Rattle.tc_script.specs.declared.slots.Slot.{Slot}
 use Rattle.tc_script.specs.declared.slots.Slot.TheVariants as slot
 use Rattle.tc_script.specs.Fits.{Fits}
+use Rattle.tc_script.specs.NameRules.{named_again}
 use Rattle.tc_script.specs.Slots.{behind}
 
 -- a run takes this line: it spells an act, a question or a load, whose text is not too long
@@ -45,8 +46,10 @@ Blames text fault.TooLong = HasLongAct text
 Blames text (fault.Word which at) = NoneBegins which text
 Blames text (fault.Missing which at) = NoneBegins which text
 Blames text (fault.Extra which) = NoneBegins which text
+Blames text (fault.Twice which) = NoneBegins which text
 
 -- what is told of a line
 abbrev pub Tells : List ℕ → LineFault → Type 0
 Tells text fault.TooLong = HasLongAct text
+Tells text (fault.Twice which) = (¬ HasLongAct text) × Follow (Some slot.Moment) (line_words text) × (named_again (line_words text) ≡ Some which)
 Tells text told = (¬ HasLongAct text) × IsWrong 1 (Some slot.Moment) (line_words text) told

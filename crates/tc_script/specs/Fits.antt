@@ -1,12 +1,15 @@
 -- The words that are taken at a place, in the words of the grammar.
-use Rattle.std.specs.Prelude.{◌≡◌, ◌≢◌, ⊤, ℕ, ◌<◌, ◌≤◌, Bool, true, false, IsTrue, is_some, List, [], ◌∷◌, length, codes}
+use Rattle.std.specs.Prelude.{◌≡◌, ◌≢◌, ◌⊎◌, ⊤, ℕ, ◌<◌, ◌≤◌, ◌==◌, ◌||◌, Bool, true, false, IsTrue, is_some, List, [], ◌∷◌, length, codes}
 use Rattle.std.specs.List.{list_any, AllByRecursion}
 use Rattle.std.specs.Fmt.{decimal, signed_decimal}
 use Rattle.tc_types.specs.Numbers.{IsMoment, IsNumber, IsOffset, IsApid, IsSubtype, IsCounter, IsWindow, IsTicks, IsTransmissionLimit}
 use Rattle.tc_types.specs.Names.{IsName, IsPerson}
 use Rattle.tc_types.specs.Grammar.{ack_word, yes_no, outcome_word, IsOutcome}
+use Rattle.tc_types.specs.AirGrammar.{IsIdentity}
 use Rattle.tc_types.specs.Inserts.{most_inserted}
-use Rattle.tc_types.specs.Lines.{place_name}
+use Rattle.tc_types.specs.Limits.{most_activities}
+use Rattle.tc_types.specs.Lines.{identity_word, place_name}
+use Rattle.tc_types.specs.LinkLines.{word_digits}
 use Rattle.tc_types.specs.Loads.{IsPath}
 use Rattle.tc_types.specs.StepGrammar.{verdict_word, second_word, IsSecond}
 use Rattle.tc_script.specs.declared.sorts.Sort.{Sort}
@@ -80,6 +83,34 @@ FitsOffset ShiftAll word = Spells signed_decimal IsOffset word
 FitsOffset Schedule word = IsDash word
 FitsOffset Other word = IsDash word
 
+-- a control word that was heard, or tm before a report
+abbrev pub FitsHeard : List ℕ → Type 0
+FitsHeard word = (word ≡ codes "tm") ⊎ Spells word_digits IsNumber word
+
+-- the reports that are heard: of verification, and a summary of the schedule
+abbrev pub report_kinds : List (List ℕ)
+report_kinds = codes "1,1" ∷ codes "1,2" ∷ codes "1,3" ∷ codes "1,4" ∷ codes "1,5" ∷ codes "1,6" ∷ codes "1,7" ∷ codes "1,8" ∷ codes "11,13" ∷ []
+
+-- a report of verification has a step, or a code (ECSS-E-ST-70-41C, service 1)
+abbrev pub has_step : ℕ → Bool
+has_step subtype = subtype == 5 || subtype == 6
+
+abbrev pub has_code : ℕ → Bool
+has_code subtype = subtype == 2 || subtype == 4 || subtype == 6 || subtype == 8
+
+-- a number of 8 bits if there is one, else 0
+abbrev pub FitsIf : Bool → List ℕ → Type 0
+FitsIf true word = Spells decimal IsCounter word
+FitsIf false word = word ≡ codes "0"
+
+-- the status that a summary has, or - if it has none
+abbrev pub statuses : List (List ℕ)
+statuses = codes "enabled" ∷ codes "disabled" ∷ codes "-" ∷ []
+
+-- a summary has 0 to 64 activities
+abbrev pub IsActivityCount : ℕ → Type 0
+IsActivityCount n = n ≤ most_activities
+
 -- a command of the on-board schedule completes
 abbrev pub FitsOutcome : Bool → List ℕ → Type 0
 FitsOutcome true word = word ≡ codes "ok"
@@ -114,6 +145,17 @@ Fits slot.Counter word = Spells decimal IsCounter word
 Fits slot.Window word = Spells decimal IsWindow word
 Fits slot.Ticks word = Spells decimal IsTicks word
 Fits slot.Limit word = Spells decimal IsTransmissionLimit word
+Fits slot.Heard word = FitsHeard word
+Fits slot.Report word = IsTrue (is_one_of report_kinds word)
+Fits (slot.Verified subtype) word = Spells identity_word IsIdentity word
+Fits (slot.StepMark subtype) word = word ≡ codes "step"
+Fits (slot.StepDone subtype) word = FitsIf (has_step subtype) word
+Fits (slot.CodeMark subtype) word = word ≡ codes "code"
+Fits (slot.Code subtype) word = FitsIf (has_code subtype) word
+Fits slot.Status word = IsTrue (is_one_of statuses word)
+Fits slot.Activities word = Spells decimal IsActivityCount word
+Fits (slot.Listed left) word = Spells identity_word IsIdentity word
+Fits (slot.ListedTime left) word = Spells decimal IsMoment word
 Fits slot.Apid word = Spells decimal IsApid word
 Fits slot.Ack word = Spells ack_word (λ ack. Unit {0}) word
 Fits (slot.Critical completes) word = Spells yes_no (λ critical. Unit {0}) word

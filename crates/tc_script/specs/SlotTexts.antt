@@ -4,6 +4,7 @@ use Rattle.tc_script.specs.declared.sorts.Sort.{Sort}
 use Rattle.tc_script.specs.declared.sorts.Sort.TheVariants.{Insert, Delete, Shift, ShiftAll, Schedule, Other}
 use Rattle.tc_script.specs.declared.slots.Slot.{Slot}
 use Rattle.tc_script.specs.declared.slots.Slot.TheVariants as slot
+use Rattle.tc_script.specs.Fits.{has_code, has_step}
 
 abbrev pub service_text : Bool → List ℕ
 service_text true = codes "1 to 255 in plain digits"
@@ -33,6 +34,26 @@ abbrev pub outcome_text : Bool → List ℕ
 outcome_text true = codes "ok, which service 11 wants"
 outcome_text false = codes "an outcome, such as ok or halt/2/17, where a code is 16 to 255"
 
+-- a step or a code of a report of verification
+abbrev pub if_text : Bool → List ℕ
+if_text true = codes "0 to 255 in plain digits"
+if_text false = codes "0, since this report has none"
+
+-- at a place of something that was heard
+abbrev pub heard_text : Slot → List ℕ
+heard_text slot.Heard = codes "8 digits of 0-9 and a-f, or tm"
+heard_text slot.Report = codes "1,1 to 1,8, or 11,13"
+heard_text (slot.Verified subtype) = codes "a name on board, such as 5/0"
+heard_text (slot.StepMark subtype) = codes "step"
+heard_text (slot.StepDone subtype) = if_text (has_step subtype)
+heard_text (slot.CodeMark subtype) = codes "code"
+heard_text (slot.Code subtype) = if_text (has_code subtype)
+heard_text slot.Status = codes "enabled, disabled or -"
+heard_text slot.Activities = codes "the number of activities, 0 to 64, in plain digits"
+heard_text (slot.Listed left) = codes "a name on board, such as 5/0"
+heard_text (slot.ListedTime left) = codes "a moment, whole Unix seconds from 0 to 4102444799, in plain digits"
+heard_text other = []
+
 -- at a place of an entry
 abbrev pub entry_text : Slot → List ℕ
 entry_text slot.Apid = codes "0 to 2047 in plain digits"
@@ -44,7 +65,7 @@ entry_text (slot.Target sort) = target_text sort
 entry_text (slot.Offset sort) = offset_text sort
 entry_text (slot.Times count) = codes "as many moments as requests, parted by ;"
 entry_text (slot.Outcome scheduling) = outcome_text scheduling
-entry_text other = []
+entry_text other = heard_text other
 
 -- where a number counts something
 abbrev pub number_text : Slot → List ℕ

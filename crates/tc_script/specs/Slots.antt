@@ -1,5 +1,5 @@
 -- The places of a line, one behind the other.
-use Rattle.std.specs.Prelude.{ℕ, ◌==◌, Bool, true, if◌then◌else◌, Option, Some, None, List, length, get_or, codes}
+use Rattle.std.specs.Prelude.{ℕ, ◌+◌, ◌-◌, ◌*◌, ◌==◌, Bool, true, if◌then◌else◌, Option, Some, None, List, [], ◌∷◌, length, get_or, codes}
 use Rattle.std.specs.Option.{option_and_then}
 use Rattle.tc_types.specs.Verbs.{verb_in}
 use Rattle.tc_types.specs.Words.{words}
@@ -23,6 +23,34 @@ behind_setting word =
     else if same word (codes "t1") then Some slot.Ticks
     else Some slot.Limit
 
+-- the subtype of a report of verification, by its word
+abbrev pub subtype_in : List ℕ → ℕ
+subtype_in word = get_or word 2 0 - 48
+
+-- a number of one digit or of two, by its word
+abbrev pub count_in : List ℕ → ℕ
+count_in (ones ∷ []) = ones - 48
+count_in (tens ∷ ones ∷ []) = (tens - 48) * 10 + (ones - 48)
+count_in other = 0
+
+-- so many activities of a summary stand behind; the line ends where there is none
+abbrev pub listed : ℕ → Option Slot
+listed left = if left == 0 then None else Some (slot.Listed left)
+
+-- what stands behind this word of something that was heard, at its place
+abbrev pub behind_heard : Slot → List ℕ → Option Slot
+behind_heard slot.Heard word = if same word (codes "tm") then Some slot.Report else None
+behind_heard slot.Report word = if same word (codes "11,13") then Some slot.Status else Some (slot.Verified (subtype_in word))
+behind_heard (slot.Verified subtype) word = Some (slot.StepMark subtype)
+behind_heard (slot.StepMark subtype) word = Some (slot.StepDone subtype)
+behind_heard (slot.StepDone subtype) word = Some (slot.CodeMark subtype)
+behind_heard (slot.CodeMark subtype) word = Some (slot.Code subtype)
+behind_heard slot.Status word = Some slot.Activities
+behind_heard slot.Activities word = listed (count_in word)
+behind_heard (slot.Listed left) word = Some (slot.ListedTime left)
+behind_heard (slot.ListedTime left) word = listed (left - 1)
+behind_heard other word = None
+
 -- the last of four flags is set
 abbrev pub completes : List ℕ → Bool
 completes word = get_or word 3 0 == 99
@@ -42,7 +70,7 @@ behind_entry (slot.Target Schedule) word = Some (slot.Offset Schedule)
 behind_entry (slot.Target Other) word = Some (slot.Offset Other)
 behind_entry (slot.Offset sort) word = Some (slot.Outcome (is_schedule_sort sort))
 behind_entry (slot.Times count) word = Some (slot.Outcome true)
-behind_entry other word = None
+behind_entry other word = behind_heard other word
 
 -- what stands behind this word, at its place; none where the line ends there
 abbrev pub behind : Slot → List ℕ → Option Slot

@@ -1,6 +1,6 @@
 //! What stands behind a word.
 ghost use Rattle.std.specs.Prelude.{◌≡◌};
-ghost use Rattle.tc_script.specs.Slots.{behind, behind_entry, behind_initiation, behind_setting, completes};
+ghost use Rattle.tc_script.specs.Slots.{behind, behind_entry, behind_heard, behind_initiation, behind_setting, completes, count_in, listed, subtype_in};
 
 use crate::lists::count_parts;
 use crate::slots::Slot;
@@ -31,6 +31,63 @@ fn behind_setting(word: &[u8]) -> Option<Slot>
         Some(Slot::Ticks)
     } else {
         Some(Slot::Limit)
+    }
+}
+
+/// The subtype of a report of verification, by its word.
+fn subtype_in(word: &[u8]) -> usize
+    ensures { result ≡ subtype_in word.now }
+{
+    match word.get(2) {
+        Some(digit) => usize::from(digit.saturating_sub(b'0')),
+        None => 0,
+    }
+}
+
+/// A number of one digit or of two, by its word.
+fn count_in(word: &[u8]) -> usize
+    ensures { result ≡ count_in word.now }
+{
+    match word {
+        [ones] => usize::from(ones.saturating_sub(b'0')),
+        [tens, ones] => {
+            let tens = usize::from(tens.saturating_sub(b'0'));
+            tens * 10 + usize::from(ones.saturating_sub(b'0'))
+        }
+        _ => 0,
+    }
+}
+
+/// So many activities of a summary stand behind; the line ends where there is none.
+fn listed(left: usize) -> Option<Slot>
+    ensures { result ≡ listed left }
+{
+    if left == 0 {
+        None
+    } else {
+        Some(Slot::Listed { left })
+    }
+}
+
+/// What stands behind this word of something that was heard.
+fn behind_heard(slot: Slot, word: &[u8]) -> Option<Slot>
+    ensures { result ≡ behind_heard slot word.now }
+{
+    match slot {
+        Slot::Heard if same(word, b"tm") => Some(Slot::Report),
+        Slot::Report if same(word, b"11,13") => Some(Slot::Status),
+        Slot::Report => Some(Slot::Verified {
+            subtype: subtype_in(word),
+        }),
+        Slot::Verified { subtype } => Some(Slot::StepMark { subtype }),
+        Slot::StepMark { subtype } => Some(Slot::StepDone { subtype }),
+        Slot::StepDone { subtype } => Some(Slot::CodeMark { subtype }),
+        Slot::CodeMark { subtype } => Some(Slot::Code { subtype }),
+        Slot::Status => Some(Slot::Activities),
+        Slot::Activities => listed(count_in(word)),
+        Slot::Listed { left } => Some(Slot::ListedTime { left }),
+        Slot::ListedTime { left } => listed(left.saturating_sub(1)),
+        _ => None,
     }
 }
 
@@ -66,7 +123,7 @@ fn behind_entry(slot: Slot, word: &[u8]) -> Option<Slot>
         Slot::Times(_) => Some(Slot::Outcome {
             is_scheduling: true,
         }),
-        _ => None,
+        _ => behind_heard(slot, word),
     }
 }
 

@@ -1,11 +1,14 @@
 //! What is wrong with a line.
-ghost use Rattle.std.specs.Prelude.{◌≡◌, ◌↔◌, ◌⊎◌, IfSome, IsTrue, is_none, Some, None};
+ghost use Rattle.std.specs.Prelude.{◌≡◌, ◌↔◌, ◌⊎◌, IfSome, IsTrue, is_none, option_map, Some, None};
 ghost use Rattle.tc_types.specs.ActGrammar.{HasLongAct};
+ghost use Rattle.tc_script.specs.declared.faults.LineFault.TheVariants as fault;
 ghost use Rattle.tc_script.specs.declared.slots.Slot.TheVariants as slot;
+ghost use Rattle.tc_script.specs.NameRules.{named_again};
 ghost use Rattle.tc_script.specs.Faults.{Blames, Follow, IsTaken, IsWrong, Tells, line_words};
 
 use crate::behind::behind;
 use crate::fits::fits;
+use crate::names::named_again;
 use crate::slots::Slot;
 use tc_lines::{cut, read_line};
 use tc_types::Refusal;
@@ -21,6 +24,8 @@ pub enum LineFault {
     Missing { which: usize, at: Slot },
     /// The line would end before this word.
     Extra { which: usize },
+    /// This word names an activity that an earlier word of the summary names.
+    Twice { which: usize },
 }
 
 /// Whether the act of a line is too long.
@@ -56,6 +61,16 @@ fn word_fault(line: &[u8]) -> Option<LineFault>
     }
 }
 
+/// What is wrong with the names of a line; `None` where nothing is.
+fn name_fault(line: &[u8]) -> Option<LineFault>
+    ensures { result ≡ option_map (λ which. fault.Twice which) (named_again (line_words line.now)) }
+{
+    match named_again(line) {
+        Some(which) => Some(LineFault::Twice { which }),
+        None => None,
+    }
+}
+
 /// What is wrong with a line of a script, that is without its line end; `None` where a run takes it.
 pub fn line_fault(line: &[u8]) -> Option<LineFault>
     ensures taken { IsTrue (is_none result) ↔ IsTaken line.now }
@@ -65,5 +80,8 @@ pub fn line_fault(line: &[u8]) -> Option<LineFault>
     if is_too_long(line) {
         return Some(LineFault::TooLong);
     }
-    word_fault(line)
+    match word_fault(line) {
+        Some(fault) => Some(fault),
+        None => name_fault(line),
+    }
 }

@@ -2,6 +2,10 @@
 ghost use Rattle.std.specs.Prelude.{◌↔◌, IsTrue};
 ghost use Rattle.tc_script.specs.Fits.{Fits, FitsOffset, FitsTarget};
 
+use crate::air_forms::{
+    fits_if, has_code, has_step, is_activity_count, is_heard, is_identity, is_report_kind,
+    is_status,
+};
 use crate::forms::{
     is_ack, is_apid, is_counter, is_dash, is_initiation, is_limit, is_moment, is_name, is_number,
     is_offset, is_outcome, is_path, is_person, is_place, is_second, is_service, is_setting,
@@ -10,6 +14,7 @@ use crate::forms::{
 use crate::lists::{are_moments, are_requests};
 use crate::slots::Slot;
 use crate::sorts::Sort;
+use tc_lines::read::readers::is;
 use tc_types::Verb;
 
 /// Whether a command of this sort names this.
@@ -61,6 +66,16 @@ pub(crate) fn fits(slot: Slot, word: &[u8]) -> bool
         Slot::Window => is_window(word),
         Slot::Ticks => is_ticks(word),
         Slot::Limit => is_limit(word),
+        Slot::Heard => is_heard(word),
+        Slot::Report => is_report_kind(word),
+        Slot::Verified { .. } | Slot::Listed { .. } => is_identity(word),
+        Slot::StepMark { .. } => is(word, b"step"),
+        Slot::StepDone { subtype } => fits_if(has_step(subtype), word),
+        Slot::CodeMark { .. } => is(word, b"code"),
+        Slot::Code { subtype } => fits_if(has_code(subtype), word),
+        Slot::Status => is_status(word),
+        Slot::Activities => is_activity_count(word),
+        Slot::ListedTime { .. } => is_moment(word),
         Slot::Apid => is_apid(word),
         Slot::Ack => is_ack(word),
         Slot::Critical { .. } => is_yes_or_no(word),

@@ -4,11 +4,13 @@
 //! word fits, and that ends where it may, is one that the readers of `tc_lines` read.
 #![tactic(auto)]
 
+mod air_forms;
 mod behind;
 mod faults;
 mod fits;
 mod forms;
 mod lists;
+mod names;
 mod slots;
 mod sorts;
 mod texts;

@@ -58,6 +58,49 @@ pub enum Slot {
     Ticks,
     /// The Transmission_Limit.
     Limit,
+    /// A control word that was heard, or `tm` before a report.
+    Heard,
+    /// The subtype of a report that was heard.
+    Report,
+    /// The name on board that a report of verification has.
+    Verified {
+        /// The subtype of the report, 1 to 8.
+        subtype: usize,
+    },
+    /// The word `step`.
+    StepMark {
+        /// The subtype of the report.
+        subtype: usize,
+    },
+    /// The step of a report.
+    StepDone {
+        /// The subtype of the report.
+        subtype: usize,
+    },
+    /// The word `code`.
+    CodeMark {
+        /// The subtype of the report.
+        subtype: usize,
+    },
+    /// The code of a report.
+    Code {
+        /// The subtype of the report.
+        subtype: usize,
+    },
+    /// Whether the schedule is enabled.
+    Status,
+    /// How many activities a summary has.
+    Activities,
+    /// The name on board of an activity.
+    Listed {
+        /// How many activities are left, with this one.
+        left: usize,
+    },
+    /// Its release time.
+    ListedTime {
+        /// How many activities are left, with this one.
+        left: usize,
+    },
     /// The application process.
     Apid,
     /// Which reports are asked for.

@@ -1,7 +1,8 @@
 //! What would be taken at a place, in words.
 ghost use Rattle.std.specs.Prelude.{◌≡◌};
-ghost use Rattle.tc_script.specs.SlotTexts.{entry_text, number_text, offset_text, outcome_text, service_text, slot_text, subtype_text, target_text};
+ghost use Rattle.tc_script.specs.SlotTexts.{entry_text, heard_text, if_text, number_text, offset_text, outcome_text, service_text, slot_text, subtype_text, target_text};
 
+use crate::air_forms::{has_code, has_step};
 use crate::slots::Slot;
 use crate::sorts::Sort;
 
@@ -56,6 +57,37 @@ fn outcome_text(is_scheduling: bool) -> &'static str
     }
 }
 
+fn if_text(there: bool) -> &'static str
+    ensures { result.now ≡ if_text there }
+{
+    if there {
+        "0 to 255 in plain digits"
+    } else {
+        "0, since this report has none"
+    }
+}
+
+/// What would be taken at a place of something that was heard.
+fn heard_text(slot: Slot) -> &'static str
+    ensures { result.now ≡ heard_text slot }
+{
+    match slot {
+        Slot::Heard => "8 digits of 0-9 and a-f, or tm",
+        Slot::Report => "1,1 to 1,8, or 11,13",
+        Slot::Verified { .. } | Slot::Listed { .. } => "a name on board, such as 5/0",
+        Slot::StepMark { .. } => "step",
+        Slot::StepDone { subtype } => if_text(has_step(subtype)),
+        Slot::CodeMark { .. } => "code",
+        Slot::Code { subtype } => if_text(has_code(subtype)),
+        Slot::Status => "enabled, disabled or -",
+        Slot::Activities => "the number of activities, 0 to 64, in plain digits",
+        Slot::ListedTime { .. } => {
+            "a moment, whole Unix seconds from 0 to 4102444799, in plain digits"
+        }
+        _ => "",
+    }
+}
+
 /// What would be taken at a place of an entry.
 fn entry_text(slot: Slot) -> &'static str
     ensures { result.now ≡ entry_text slot }
@@ -70,7 +102,7 @@ fn entry_text(slot: Slot) -> &'static str
         Slot::Offset(sort) => offset_text(sort),
         Slot::Times(_) => "as many moments as requests, parted by ;",
         Slot::Outcome { is_scheduling } => outcome_text(is_scheduling),
-        _ => "",
+        _ => heard_text(slot),
     }
 }
 

@@ -27,6 +27,7 @@ pub(crate) fn first_slot(verb: Verb) -> Option<Slot>
         Verb::Set => Some(Slot::Setting),
         Verb::LoseUp | Verb::LoseDown => Some(Slot::Item),
         Verb::Clock => Some(Slot::Time),
+        Verb::Hear => Some(Slot::Heard),
         Verb::History => Some(Slot::HistoryOf),
         Verb::Urgent => Some(Slot::FromLine),
         Verb::Moves => Some(Slot::After),
@@ -40,6 +41,8 @@ pub(crate) fn first_slot(verb: Verb) -> Option<Slot>
         | Verb::Clcw
         | Verb::Down
         | Verb::Work
+        | Verb::Transmit
+        | Verb::Quiet
         | Verb::Places
         | Verb::Link
         | Verb::Schedule

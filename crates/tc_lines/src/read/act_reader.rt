@@ -7,6 +7,7 @@ ghost use Rattle.tc_types.specs.Verbs.{verb_word};
 ghost use Rattle.tc_types.specs.Grammar.{Reads};
 ghost use Rattle.tc_types.specs.ActGrammar.{book_act_words, IsBookAct, act_words, IsAct, act_text, SpellsAct};
 
+use crate::read::air_reader::{hear, quiet, transmit};
 use crate::read::entry_reader::entry;
 use crate::read::link_reader::link_act_of;
 use crate::read::query_reader::{is_question, query_of};
@@ -81,6 +82,12 @@ pub fn act_of(words: &mut Words<'_>) -> Option<Act>
         Some(Act::Book(begin(words)?))
     } else if Verb::Step.is(verb) {
         Some(Act::Step(step(words)?))
+    } else if Verb::Transmit.is(verb) {
+        Some(Act::Air(transmit(words)?))
+    } else if Verb::Hear.is(verb) {
+        Some(Act::Air(hear(words)?))
+    } else if Verb::Quiet.is(verb) {
+        Some(Act::Air(quiet(words)?))
     } else if is_question(verb) {
         Some(Act::Ask(query_of(verb, words)?))
     } else {

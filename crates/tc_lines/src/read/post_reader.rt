@@ -1,6 +1,9 @@
 //! Texts that are read as posts of a front end.
-ghost use Rattle.std.specs.Prelude.{◌≡◌, ◌≢◌, ◌≤◌, ◌↔◌, ◌⊎◌, ◌==◌, Ok, Err, IfOk, IfErr, IsTrue, count_by, length, option_map};
+ghost use Rattle.std.specs.Prelude.{◌≡◌, ◌≢◌, ◌≤◌, ◌↔◌, ◌⊎◌, ◌+◌, ◌==◌, ◌∷◌, Ok, Err, IfOk, IfErr, IsTrue, count_by, length, option_map};
 ghost use Rattle.tc_types.specs.declared.refusals.Refusal.TheVariants as refusal;
+ghost use Rattle.tc_types.specs.declared.verbs.Verb.TheVariants as verb;
+ghost use Rattle.tc_types.specs.Verbs.{verb_word};
+ghost use Rattle.tc_types.specs.Limits.{most_items};
 ghost use Rattle.tc_types.specs.Grammar.{Reads};
 ghost use Rattle.tc_types.specs.AirLines.{service_parts, service_word};
 ghost use Rattle.tc_types.specs.PostGrammar.{Posting, posting_of, item_words, item_text, IsItem, IsAirService, head_words, head_text, IsHead, item_lines, AreItems, post_lines, IsPosting, SpellsPost, IsLongPost};
@@ -91,13 +94,16 @@ fn item(line: &[u8]) -> Option<AirItem>
 
 /// The items on these lines, which are as many as a post may have. Fails if memory is refused.
 fn items_of(alloc: Global, lines: &mut Words<'_>) -> Result<Option<Vec<AirItem>>, AllocError>
-    requires { length lines.old ≤ MOST_ITEMS + 1 }
+    requires { length lines.old ≤ most_items + 1 }
     ensures { IfOk result (λ read. Reads item_lines AreItems lines.old (option_map (λ items. items.items) read)) }
 {
     let mut items = Vec::new(alloc);
     while let Some(line) = lines.next() {
         if line.is_empty() {
-            return Ok(lines.end().map(|()| items));
+            if lines.end().is_some() {
+                return Ok(Some(items));
+            }
+            return Ok(None);
         }
         let Some(item) = item(line) else {
             return Ok(None);
@@ -107,16 +113,24 @@ fn items_of(alloc: Global, lines: &mut Words<'_>) -> Result<Option<Vec<AirItem>>
     Ok(None)
 }
 
-/// Returns whether a post is too long: it has more bytes than 65,536, or more lines than 257.
+/// How many LF these bytes have.
+fn count_ends(body: &[u8]) -> usize
+    ensures count { result ≡ count_by (λ byte. byte == 10) body.now }
+    ensures few { result ≤ length body.now }
+{
+    body.iter().filter(|byte| **byte == b'\n').count()
+}
+
+/// Whether a post is too long: it has more bytes than 65,536, or more lines than 257.
 fn is_long(body: &[u8]) -> bool
     ensures { IsTrue result ↔ IsLongPost body.now }
 {
-    body.len() > LONGEST_POST || body.iter().filter(|byte| **byte == b'\n').count() > MOST_ITEMS + 1
+    body.len() > LONGEST_POST || count_ends(body) > MOST_ITEMS + 1
 }
 
 /// The lines of a post. Fails if memory is refused.
 fn post_of(alloc: Global, lines: &mut Words<'_>) -> Result<Option<Post>, AllocError>
-    requires { length lines.old ≤ MOST_ITEMS + 2 }
+    requires { length lines.old ≤ most_items + 2 }
     ensures { IfOk result (λ read. Reads post_lines IsPosting lines.old (option_map posting_of read)) }
 {
     let Some(line) = lines.next() else {
@@ -135,7 +149,8 @@ fn post_of(alloc: Global, lines: &mut Words<'_>) -> Result<Option<Post>, AllocEr
 /// 65,536, or have more than 257 LF; else with `BadText` if they spell no post, and with `Memory` if memory is refused.
 pub fn read_post(alloc: Global, body: &[u8]) -> Result<Post, Refusal>
     ensures found { IfOk result (λ post. SpellsPost body.now (posting_of post)) }
-    ensures only { (post : Posting) → SpellsPost body.now post → IfErr result (λ e. (e ≡ refusal.Memory) ⊎ (e ≡ refusal.TooLong)) }
+    ensures only { (post : Posting) → SpellsPost body.now post → IfOk result (λ read. posting_of read ≡ post) }
+    ensures read { (post : Posting) → SpellsPost body.now post → IfErr result (λ e. e ≢ refusal.BadText) }
     ensures too_long { (result ≡ Err refusal.TooLong) ↔ IsLongPost body.now }
     ensures others { IfErr result (λ e. e ≢ refusal.TooLong → (e ≡ refusal.BadText) ⊎ (e ≡ refusal.Memory)) }
 {
