@@ -1,4 +1,6 @@
 pub mod LinkLaws
+pub mod AirLemmas
+pub mod PostLemmas
 pub mod AnswerLines
 pub mod ActSpellings
 pub mod QueryLaws

@@ -8,5 +8,6 @@ pub mod OneLine
 pub mod Spellings
 pub mod PlaceLemmas
 pub mod HeardLaws
+pub mod HexLaws
 pub mod AirSpellings
 pub mod PortLaws
