@@ -41,6 +41,10 @@ word_text at word = if is_empty word then codes "empty, where one space parts tw
 abbrev pub extra_text : List ℕ → List ℕ
 extra_text word = if is_empty word then codes "empty, behind the last word" else codes "one too many: " ++ quoted word
 
+-- a name of a summary that stands before
+abbrev pub again_text : List ℕ → List ℕ
+again_text word = codes "a name that stands before: " ++ quoted word
+
 -- ---- a line
 
 abbrev pub line_place : ℕ → List ℕ
@@ -62,6 +66,7 @@ fault_text number line fault.TooLong = line_place number ++ codes ": more than 2
 fault_text number line (fault.Word which at) = word_place number which ++ word_text at (word_of line which)
 fault_text number line (fault.Missing which at) = word_place number which ++ codes "missing, " ++ slot_text at
 fault_text number line (fault.Extra which) = word_place number which ++ extra_text (word_of line which)
+fault_text number line (fault.Twice which) = word_place number which ++ again_text (word_of line which)
 
 -- ---- a line that a run takes, and each desk refuses
 

@@ -6,7 +6,7 @@ ghost use Rattle.std.specs.String.{string_bytes};
 ghost use Rattle.tc_types.specs.Words.{words, words_left};
 ghost use Rattle.tc_script.specs.Faults.{line_words};
 ghost use Rattle.tc_script.specs.SlotTexts.{slot_text};
-ghost use Rattle.tc_check.specs.LineTexts.{extra_text, fault_text, has_twice, in_word, is_path, is_strange, line_place, names_twice, twice_text, why_word, word_of, word_place, word_text};
+ghost use Rattle.tc_check.specs.LineTexts.{again_text, extra_text, fault_text, has_twice, in_word, is_path, is_strange, line_place, names_twice, twice_text, why_word, word_of, word_place, word_text};
 
 use crate::looks::has_in;
 use crate::shown::quoted;
@@ -72,6 +72,15 @@ fn extra_text(alloc: Global, word: &[u8]) -> Result<String, AllocError>
     let value = quoted(alloc, word)?;
     let value = value.as_str();
     format!(in alloc; "one too many: {value}")
+}
+
+/// What is told of a name of a summary that stands before.
+fn again_text(alloc: Global, word: &[u8]) -> Result<String, AllocError>
+    ensures { IfOk result (λ text. string_bytes text ≡ again_text word.now) }
+{
+    let value = quoted(alloc, word)?;
+    let value = value.as_str();
+    format!(in alloc; "a name that stands before: {value}")
 }
 
 /// The word at a place, from 0; empty where there is none.
@@ -157,6 +166,15 @@ fn extra_line(alloc: Global, number: usize, line: &[u8], which: usize) -> Result
     Ok(text)
 }
 
+/// A name of a summary that stands before.
+fn again_line(alloc: Global, number: usize, line: &[u8], which: usize) -> Result<String, AllocError>
+    ensures { IfOk result (λ text. string_bytes text ≡ word_place number which ++ again_text (word_of line.now which)) }
+{
+    let mut text = word_place(alloc, number, which)?;
+    text.push_str(again_text(alloc, word_of(line, which))?.as_str())?;
+    Ok(text)
+}
+
 /// An act that is too long.
 fn long_line(alloc: Global, number: usize) -> Result<String, AllocError>
     ensures { IfOk result (λ text. string_bytes text ≡ line_place number ++ codes ": more than 200 bytes behind the second space") }
@@ -180,6 +198,7 @@ pub(crate) fn fault_text(
         LineFault::Word { which, at } => word_line(alloc, number, line, which, at),
         LineFault::Missing { which, at } => missing_line(alloc, number, which, at),
         LineFault::Extra { which } => extra_line(alloc, number, line, which),
+        LineFault::Twice { which } => again_line(alloc, number, line, which),
     }
 }
 

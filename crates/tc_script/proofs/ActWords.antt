@@ -11,6 +11,8 @@ use Rattle.tc_types.specs.declared.link.directives.Directive.{Directive}
 use Rattle.tc_types.specs.declared.link.directives.Directive.TheVariants as directive
 use Rattle.tc_types.specs.declared.acts.LinkAct.{LinkAct}
 use Rattle.tc_types.specs.declared.acts.LinkAct.TheVariants as link_act
+use Rattle.tc_types.specs.declared.air.AirAct.{AirAct}
+use Rattle.tc_types.specs.declared.air.AirAct.TheVariants as air_act
 use Rattle.tc_types.specs.declared.acts.StepAct.{StepAct}
 use Rattle.tc_types.specs.declared.acts.Act.{Act}
 use Rattle.tc_types.specs.declared.acts.Act.TheVariants as act
@@ -33,9 +35,11 @@ use Rattle.tc_script.specs.Verbs.{first_slot, same}
 use Rattle.tc_script.specs.Slots.{behind}
 use Rattle.tc_script.specs.Fits.{Fits, Spells, initiations, settings}
 use Rattle.tc_script.specs.Faults.{Follow}
+use Rattle.tc_script.specs.NameRules.{named_again}
 use Rattle.tc_script.proofs.WordLemmas.{word_is, IsAny, any_of}
 use Rattle.tc_script.proofs.NextWord.{next, at_end, one_word}
 use Rattle.tc_script.proofs.EntryWords.{entry_follows, entry_from}
+use Rattle.tc_script.proofs.HeardWords.{air_follows, air_apart, hear_from}
 
 -- ---- the words of acts and questions
 
@@ -90,6 +94,7 @@ query_follows (query.Steps procedure) is = (refl, (is, tt))
 pub act_follows : (given : Act) → IsAct given → Follow (Some slot.Verb) (act_words given)
 act_follows (act.Book given) is = book_follows given is
 act_follows (act.Link given) is = link_follows given is
+act_follows (act.Air given) is = air_follows given is
 act_follows (act.Step given) is = step_follows given is
 act_follows (act.Ask given) is = query_follows given is
 
@@ -218,40 +223,49 @@ enter rest f =
     let (entry, are, kept) = entry_from rest f in
     inl (act.Book (book_act.Enter entry), ap (λ (ws : List (List ℕ)). codes "enter" ∷ ws) are, kept)
 
-act_from : (of : Verb) (rest : List (List ℕ)) → Follow (first_slot of) rest → ActFrom (verb_word of ∷ rest)
-act_from verb.Enter rest f = enter rest f
-act_from verb.Withdraw rest f = numbered slot.Request _ rest IsNumber (λ n. act.Book (book_act.Withdraw n)) (λ w. refl) (λ w is. is) (λ n. refl) (λ n is. is) f
-act_from verb.Approve rest f = numbered slot.Request _ rest IsNumber (λ n. act.Book (book_act.Approve n)) (λ w. refl) (λ w is. is) (λ n. refl) (λ n is. is) f
-act_from verb.Close rest f = numbered slot.Request _ rest IsNumber (λ n. act.Book (book_act.Close n)) (λ w. refl) (λ w is. is) (λ n. refl) (λ n is. is) f
-act_from verb.ApproveStack rest f = named _ rest (λ name. act.Book (book_act.ApproveStack name)) (λ name. refl) (λ name is. is) f
-act_from verb.Begin rest f = named _ rest (λ name. act.Book (book_act.Begin name)) (λ name. refl) (λ name is. is) f
-act_from verb.Step rest f = step_from rest f
-act_from verb.Release rest f = numbered slot.Request _ rest IsNumber (λ n. act.Link (link_act.Release n)) (λ w. refl) (λ w is. is) (λ n. refl) (λ n is. is) f
-act_from verb.Initiate rest f = initiate rest f
-act_from verb.Terminate rest f = bare_act _ rest (act.Link (link_act.Direct directive.Terminate)) refl tt f
-act_from verb.Set rest f = set rest f
-act_from verb.Tick rest f = bare_act _ rest (act.Link link_act.Tick) refl tt f
-act_from verb.Up rest f = bare_act _ rest (act.Link link_act.Up) refl tt f
-act_from verb.LoseUp rest f = numbered slot.Item _ rest IsNumber (λ n. act.Link (link_act.LoseUp n)) (λ w. refl) (λ w is. is) (λ n. refl) (λ n is. is) f
-act_from verb.LoseDown rest f = numbered slot.Item _ rest IsNumber (λ n. act.Link (link_act.LoseDown n)) (λ w. refl) (λ w is. is) (λ n. refl) (λ n is. is) f
-act_from verb.Clcw rest f = bare_act _ rest (act.Link link_act.Clcw) refl tt f
-act_from verb.Down rest f = bare_act _ rest (act.Link link_act.Down) refl tt f
-act_from verb.Work rest f = bare_act _ rest (act.Link link_act.Work) refl tt f
-act_from verb.Clock rest f = numbered slot.Time _ rest IsMoment (λ n. act.Link (link_act.Clock n)) (λ w. refl) (λ w is. is) (λ n. refl) (λ n is. is) f
-act_from verb.Places rest f = bare_act _ rest (act.Ask query.Places) refl tt f
-act_from verb.History rest f = history_from rest f
-act_from verb.Request rest f = numbered slot.Request _ rest IsNumber (λ n. act.Ask (query.Request n)) (λ w. refl) (λ w is. is) (λ n. refl) (λ n is. is) f
-act_from verb.Link rest f = bare_act _ rest (act.Ask query.Link) refl tt f
-act_from verb.Schedule rest f = bare_act _ rest (act.Ask query.Schedule) refl tt f
-act_from verb.Log rest f = numbered slot.Execution _ rest IsNumber (λ n. act.Ask (query.Log n)) (λ w. refl) (λ w is. is) (λ n. refl) (λ n is. is) f
-act_from verb.Report rest f = report_from rest f
-act_from verb.Waiting rest f = bare_act _ rest (act.Ask query.Waiting) refl tt f
-act_from verb.Urgent rest f = numbered slot.FromLine _ rest IsNumber (λ n. act.Ask (query.Urgent n)) (λ w. refl) (λ w is. is) (λ n. refl) (λ n is. is) f
-act_from verb.Moves rest f = numbered slot.After _ rest IsNumber (λ n. act.Ask (query.Moves n)) (λ w. refl) (λ w is. is) (λ n. refl) (λ n is. is) f
-act_from verb.Standing rest f = standing_from rest f
-act_from verb.Steps rest f = named _ rest (λ name. act.Ask (query.Steps name)) (λ name. refl) (λ name is. is) f
-act_from verb.Stack rest f = load_from kind.Stack rest f
-act_from verb.Procedure rest f = load_from kind.Procedure rest f
+hear : (m by : List ℕ) (rest : List (List ℕ)) → Follow (Some slot.Heard) rest → named_again (m ∷ by ∷ codes "hear" ∷ rest) ≡ None → ActFrom (codes "hear" ∷ rest)
+hear m by rest f apart =
+    let (given, are, kept) = hear_from m by rest f apart in
+    inl (act.Air (air_act.Hear given), ap (λ (ws : List (List ℕ)). codes "hear" ∷ ws) are, kept)
+
+-- the words after a verb; those of a summary name no activity again
+act_from : (m by : List ℕ) (of : Verb) (rest : List (List ℕ)) → Follow (first_slot of) rest → named_again (m ∷ by ∷ verb_word of ∷ rest) ≡ None → ActFrom (verb_word of ∷ rest)
+act_from m by verb.Enter rest f apart = enter rest f
+act_from m by verb.Withdraw rest f apart = numbered slot.Request _ rest IsNumber (λ n. act.Book (book_act.Withdraw n)) (λ w. refl) (λ w is. is) (λ n. refl) (λ n is. is) f
+act_from m by verb.Approve rest f apart = numbered slot.Request _ rest IsNumber (λ n. act.Book (book_act.Approve n)) (λ w. refl) (λ w is. is) (λ n. refl) (λ n is. is) f
+act_from m by verb.Close rest f apart = numbered slot.Request _ rest IsNumber (λ n. act.Book (book_act.Close n)) (λ w. refl) (λ w is. is) (λ n. refl) (λ n is. is) f
+act_from m by verb.ApproveStack rest f apart = named _ rest (λ name. act.Book (book_act.ApproveStack name)) (λ name. refl) (λ name is. is) f
+act_from m by verb.Begin rest f apart = named _ rest (λ name. act.Book (book_act.Begin name)) (λ name. refl) (λ name is. is) f
+act_from m by verb.Step rest f apart = step_from rest f
+act_from m by verb.Release rest f apart = numbered slot.Request _ rest IsNumber (λ n. act.Link (link_act.Release n)) (λ w. refl) (λ w is. is) (λ n. refl) (λ n is. is) f
+act_from m by verb.Initiate rest f apart = initiate rest f
+act_from m by verb.Terminate rest f apart = bare_act _ rest (act.Link (link_act.Direct directive.Terminate)) refl tt f
+act_from m by verb.Set rest f apart = set rest f
+act_from m by verb.Tick rest f apart = bare_act _ rest (act.Link link_act.Tick) refl tt f
+act_from m by verb.Up rest f apart = bare_act _ rest (act.Link link_act.Up) refl tt f
+act_from m by verb.LoseUp rest f apart = numbered slot.Item _ rest IsNumber (λ n. act.Link (link_act.LoseUp n)) (λ w. refl) (λ w is. is) (λ n. refl) (λ n is. is) f
+act_from m by verb.LoseDown rest f apart = numbered slot.Item _ rest IsNumber (λ n. act.Link (link_act.LoseDown n)) (λ w. refl) (λ w is. is) (λ n. refl) (λ n is. is) f
+act_from m by verb.Clcw rest f apart = bare_act _ rest (act.Link link_act.Clcw) refl tt f
+act_from m by verb.Down rest f apart = bare_act _ rest (act.Link link_act.Down) refl tt f
+act_from m by verb.Work rest f apart = bare_act _ rest (act.Link link_act.Work) refl tt f
+act_from m by verb.Clock rest f apart = numbered slot.Time _ rest IsMoment (λ n. act.Link (link_act.Clock n)) (λ w. refl) (λ w is. is) (λ n. refl) (λ n is. is) f
+act_from m by verb.Transmit rest f apart = bare_act _ rest (act.Air air_act.Transmit) refl tt f
+act_from m by verb.Hear rest f apart = hear m by rest f apart
+act_from m by verb.Quiet rest f apart = bare_act _ rest (act.Air air_act.Quiet) refl tt f
+act_from m by verb.Places rest f apart = bare_act _ rest (act.Ask query.Places) refl tt f
+act_from m by verb.History rest f apart = history_from rest f
+act_from m by verb.Request rest f apart = numbered slot.Request _ rest IsNumber (λ n. act.Ask (query.Request n)) (λ w. refl) (λ w is. is) (λ n. refl) (λ n is. is) f
+act_from m by verb.Link rest f apart = bare_act _ rest (act.Ask query.Link) refl tt f
+act_from m by verb.Schedule rest f apart = bare_act _ rest (act.Ask query.Schedule) refl tt f
+act_from m by verb.Log rest f apart = numbered slot.Execution _ rest IsNumber (λ n. act.Ask (query.Log n)) (λ w. refl) (λ w is. is) (λ n. refl) (λ n is. is) f
+act_from m by verb.Report rest f apart = report_from rest f
+act_from m by verb.Waiting rest f apart = bare_act _ rest (act.Ask query.Waiting) refl tt f
+act_from m by verb.Urgent rest f apart = numbered slot.FromLine _ rest IsNumber (λ n. act.Ask (query.Urgent n)) (λ w. refl) (λ w is. is) (λ n. refl) (λ n is. is) f
+act_from m by verb.Moves rest f apart = numbered slot.After _ rest IsNumber (λ n. act.Ask (query.Moves n)) (λ w. refl) (λ w is. is) (λ n. refl) (λ n is. is) f
+act_from m by verb.Standing rest f apart = standing_from rest f
+act_from m by verb.Steps rest f apart = named _ rest (λ name. act.Ask (query.Steps name)) (λ name. refl) (λ name is. is) f
+act_from m by verb.Stack rest f apart = load_from kind.Stack rest f
+act_from m by verb.Procedure rest f apart = load_from kind.Procedure rest f
 
 -- ---- the verb
 
@@ -270,9 +284,73 @@ verb_from word some = by_found (verb_in word) refl some
     by_found None is none = cc
     by_found (Some of) is some = (of, is, word_is (verb_word of) word (found_passes (λ (it : Verb). same (verb_word it) word) VERBS of is))
 
-pub words_from : (given : List (List ℕ)) → Follow (Some slot.Verb) given → ActFrom given
-words_from given follow =
+pub words_from : (m by : List ℕ) (given : List (List ℕ)) → Follow (Some slot.Verb) given → named_again (m ∷ by ∷ given) ≡ None → ActFrom given
+words_from m by given follow apart =
     let verb = next slot.Verb given follow in
     let (of, found, is) = verb_from verb.word verb.fits in
     let more : Follow (first_slot of) verb.others = subst (λ (it : Option Verb). Follow (option_and_then first_slot it) verb.others) found verb.more in
-    subst (λ (ws : List (List ℕ)). ActFrom ws) (ap (λ (w : List ℕ). w ∷ verb.others) is ∙ sym verb.is) (act_from of verb.others more)
+    let same : verb_word of ∷ verb.others ≡ given = ap (λ (w : List ℕ). w ∷ verb.others) is ∙ sym verb.is in
+    let still : named_again (m ∷ by ∷ verb_word of ∷ verb.others) ≡ None = ap (λ (ws : List (List ℕ)). named_again (m ∷ by ∷ ws)) same ∙ apart in
+    subst (λ (ws : List (List ℕ)). ActFrom ws) same (act_from m by of verb.others more still)
+
+-- ---- no act names an activity again
+
+-- words whose verb is another hear no summary
+other_verb : (m by verb : List ℕ) (rest : List (List ℕ)) → same verb (codes "hear") ≡ false → named_again (m ∷ by ∷ verb ∷ rest) ≡ None
+other_verb m by verb rest other = rw other refl
+
+book_apart : (m by : List ℕ) (given : BookAct) → named_again (m ∷ by ∷ book_act_words given) ≡ None
+book_apart m by (book_act.Enter entry) = other_verb m by _ _ refl
+book_apart m by (book_act.Withdraw request) = other_verb m by _ _ refl
+book_apart m by (book_act.Approve request) = other_verb m by _ _ refl
+book_apart m by (book_act.Close request) = other_verb m by _ _ refl
+book_apart m by (book_act.ApproveStack stack) = other_verb m by _ _ refl
+book_apart m by (book_act.Begin procedure) = other_verb m by _ _ refl
+
+directive_apart : (m by : List ℕ) (given : Directive) → named_again (m ∷ by ∷ directive_words given) ≡ None
+directive_apart m by directive.InitiateNone = other_verb m by _ _ refl
+directive_apart m by directive.InitiateCheck = other_verb m by _ _ refl
+directive_apart m by directive.InitiateUnlock = other_verb m by _ _ refl
+directive_apart m by (directive.InitiateSetVr v) = other_verb m by _ _ refl
+directive_apart m by directive.Terminate = other_verb m by _ _ refl
+directive_apart m by (directive.SetVs v) = other_verb m by _ _ refl
+directive_apart m by (directive.SetK k) = other_verb m by _ _ refl
+directive_apart m by (directive.SetT1 t1) = other_verb m by _ _ refl
+directive_apart m by (directive.SetLimit limit) = other_verb m by _ _ refl
+
+link_apart : (m by : List ℕ) (given : LinkAct) → named_again (m ∷ by ∷ link_act_words given) ≡ None
+link_apart m by (link_act.Release request) = other_verb m by _ _ refl
+link_apart m by (link_act.Direct given) = directive_apart m by given
+link_apart m by link_act.Tick = other_verb m by _ _ refl
+link_apart m by link_act.Up = other_verb m by _ _ refl
+link_apart m by (link_act.LoseUp place) = other_verb m by _ _ refl
+link_apart m by (link_act.LoseDown place) = other_verb m by _ _ refl
+link_apart m by link_act.Clcw = other_verb m by _ _ refl
+link_apart m by link_act.Down = other_verb m by _ _ refl
+link_apart m by link_act.Work = other_verb m by _ _ refl
+link_apart m by (link_act.Clock time) = other_verb m by _ _ refl
+
+query_apart : (m by : List ℕ) (asked : Query) → named_again (m ∷ by ∷ query_words asked) ≡ None
+query_apart m by query.Places = other_verb m by _ _ refl
+query_apart m by (query.History request after) = other_verb m by _ _ refl
+query_apart m by (query.Request request) = other_verb m by _ _ refl
+query_apart m by query.Link = other_verb m by _ _ refl
+query_apart m by query.Schedule = other_verb m by _ _ refl
+query_apart m by (query.Log execution) = other_verb m by _ _ refl
+query_apart m by (query.Report from to) = other_verb m by _ _ refl
+query_apart m by query.Waiting = other_verb m by _ _ refl
+query_apart m by (query.Urgent from) = other_verb m by _ _ refl
+query_apart m by (query.Moves after) = other_verb m by _ _ refl
+query_apart m by (query.Standing place after) = other_verb m by _ _ refl
+query_apart m by (query.Steps procedure) = other_verb m by _ _ refl
+
+pub act_apart : (m by : List ℕ) (given : Act) → IsAct given → named_again (m ∷ by ∷ act_words given) ≡ None
+act_apart m by (act.Book given) is = book_apart m by given
+act_apart m by (act.Link given) is = link_apart m by given
+act_apart m by (act.Air given) is = air_apart m by given is
+act_apart m by (act.Step given) is = other_verb m by _ _ refl
+act_apart m by (act.Ask asked) is = query_apart m by asked
+
+pub load_apart : (m by : List ℕ) (of : LoadKind) (rest : List (List ℕ)) → named_again (m ∷ by ∷ kind_word of ∷ rest) ≡ None
+load_apart m by kind.Stack rest = other_verb m by _ rest refl
+load_apart m by kind.Procedure rest = other_verb m by _ rest refl

@@ -1,5 +1,5 @@
 -- The places of a line, one behind the other.
-use Rattle.std.specs.Prelude.{ℕ, ◌+◌, ◌-◌, ◌*◌, ◌==◌, Bool, true, if◌then◌else◌, Option, Some, None, List, [], ◌∷◌, length, get_or, codes}
+use Rattle.std.specs.Prelude.{ℕ, zero, suc, ◌+◌, ◌-◌, ◌*◌, ◌==◌, Bool, true, if◌then◌else◌, Option, Some, None, List, [], ◌∷◌, length, get_or, codes}
 use Rattle.std.specs.Option.{option_and_then}
 use Rattle.tc_types.specs.Verbs.{verb_in}
 use Rattle.tc_types.specs.Words.{words}
@@ -35,7 +35,8 @@ count_in other = 0
 
 -- so many activities of a summary stand behind; the line ends where there is none
 abbrev pub listed : ℕ → Option Slot
-listed left = if left == 0 then None else Some (slot.Listed left)
+listed zero = None
+listed (suc left) = Some (slot.Listed (suc left))
 
 -- what stands behind this word of something that was heard, at its place
 abbrev pub behind_heard : Slot → List ℕ → Option Slot

@@ -67,7 +67,7 @@ padded count k n few has = ⊎_elim
 -- a control word is printed as its eight digits
 pub word_is : (word : ℕ) → word < 2 ^ 32 → word_digits word ≡ hex_digits 8 word
 word_is word small =
-    let has : HasDigits 8 word = omega (arith, small) in
+    let has : word / 16 / 16 / 16 / 16 / 16 / 16 / 16 / 16 ≡ 0 = omega (arith, small) in
     rw (← digits_onto-nil 16 false word) (padded 7 63 word (omega arith) has)
 
 -- the digits of two halves
