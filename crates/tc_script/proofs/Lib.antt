@@ -3,6 +3,8 @@ pub mod ListLemmas
 pub mod WordLemmas
 pub mod NextWord
 pub mod EntryWords
+pub mod NameLemmas
+pub mod HeardWords
 pub mod ActWords
 pub mod LineWords
 pub mod WrongLemmas

@@ -11,7 +11,10 @@ use Rattle.tc_script.specs.declared.slots.Slot.TheVariants as slot
 use Rattle.tc_script.specs.Slots.{behind}
 use Rattle.tc_script.specs.Fits.{Fits}
 use Rattle.tc_script.specs.Faults.{Blames, Follow, IsTaken, IsWrong, NoneBegins, Tells, line_words}
-use Rattle.tc_script.proofs.LineWords.{follow_taken, taken_follows}
+use Rattle.tc_script.specs.Fits.{is_one_of}
+use Rattle.tc_script.specs.NameRules.{again_from, named_again}
+use Rattle.std.proofs.lemmas.Option.{same_Some}
+use Rattle.tc_script.proofs.LineWords.{follow_taken, taken_apart, taken_follows}
 
 -- words that are judged from this place on, behind some of a line's
 pub record StandAt (which : ℕ) (at : Option Slot) (left all : List (List ℕ)) : Type 0 where
@@ -44,6 +47,7 @@ place_of fault.TooLong = 0
 place_of (fault.Word which at) = which
 place_of (fault.Missing which at) = which
 place_of (fault.Extra which) = which
+place_of (fault.Twice which) = which
 
 -- no word before the first of them is told
 place_from : (which : ℕ) (at : Option Slot) (ws : List (List ℕ)) (told : LineFault) → IsWrong which at ws told → which ≤ place_of told
@@ -70,6 +74,14 @@ differ (suc many) which (Some at) (w ∷ ws) (v ∷ vs) told (inr (fits, more)) 
     let first : v ≡ w = ap (λ (l : List (List ℕ)). get_or l 0 v) same in
     differ many (which + 1) (behind at w) ws vs told more (subst (λ (x : List ℕ). Follow (behind at x) vs) first follow.1) (omega (arith, near)) (ap (drop 1) same)
 
+-- words that do not follow each other are not told as a name that comes again
+no_twice : (which : ℕ) (at : Option Slot) (ws : List (List ℕ)) (again : ℕ) → IsWrong which at ws (fault.Twice again) → ⊥
+no_twice which None [] again wrong = wrong
+no_twice which None (w ∷ ws) again wrong = cc
+no_twice which (Some at) [] again wrong = cc
+no_twice which (Some at) (w ∷ ws) again (inl (unfit, is)) = cc
+no_twice which (Some at) (w ∷ ws) again (inr (fits, more)) = no_twice (which + 1) (behind at w) ws again more
+
 none_begins : (given : List ℕ) (told : LineFault) → IsWrong 1 (Some slot.Moment) (line_words given) told → NoneBegins (place_of told) given
 none_begins given told wrong other taken same =
     differ (place_of told) 1 (Some slot.Moment) (line_words given) (line_words other) told wrong (taken_follows other taken) (omega arith) same
@@ -80,18 +92,55 @@ wrong_blames given fault.TooLong wrong = absurd (let from = place_from 1 (Some s
 wrong_blames given (fault.Word which at) wrong = none_begins given (fault.Word which at) wrong
 wrong_blames given (fault.Missing which at) wrong = none_begins given (fault.Missing which at) wrong
 wrong_blames given (fault.Extra which) wrong = none_begins given (fault.Extra which) wrong
+wrong_blames given (fault.Twice which) wrong = absurd (no_twice 1 (Some slot.Moment) (line_words given) which wrong)
 
 -- ---- the words that are left
 
 pub few_words : (given : List ℕ) → length (line_words given) ≤ length given + 1
 few_words given = let many = length-slice_split (λ byte. eqb byte 32) given in let few = count_by-le-length (λ byte. eqb byte 32) given in omega (arith, many, few)
 
+-- ---- a name that comes again
+
+-- a name that comes again is among the first words of the line, up to its own
+again_early : (many : ℕ) (seen names others : List (List ℕ)) (which again : ℕ) → again_from seen which names ≡ Some again → again < which + 2 * many
+    → take many names ≡ take many others → again_from seen which others ≡ Some again
+again_early zero seen names others which again is near alike = absurd (let from = again_late seen which names again is in omega (arith, from, near))
+again_early (suc many) seen [] others which again is near alike = cc
+again_early (suc many) seen (n ∷ names) [] which again is near alike = cc
+again_early (suc many) seen (n ∷ names) (o ∷ others) which again is near alike =
+    let first : n ≡ o = ap (λ (l : List (List ℕ)). get_or l 0 n) alike in
+    let rest : take many names ≡ take many others = ap (drop 1) alike in
+    by_first (is_one_of seen n) refl is rest
+  where
+    first_is : n ≡ o
+    first_is = ap (λ (l : List (List ℕ)). get_or l 0 n) alike
+    by_first : (test : Bool) → is_one_of seen n ≡ test → (if test then Some which else again_from (seen ++ n ∷ []) (which + 2) names) ≡ Some again
+        → take many names ≡ take many others → again_from seen which (o ∷ others) ≡ Some again
+    by_first true there told rest = (ap (λ (t : Bool). if t then Some which else again_from (seen ++ o ∷ []) (which + 2) others) (ap (is_one_of seen) (sym first_is) ∙ there)) ∙ told
+    by_first false there told rest =
+        (ap (λ (t : Bool). if t then Some which else again_from (seen ++ o ∷ []) (which + 2) others) (ap (is_one_of seen) (sym first_is) ∙ there))
+        ∙ ap (λ (w : List ℕ). again_from (seen ++ w ∷ []) (which + 2) others) (sym first_is)
+        ∙ again_early many (seen ++ n ∷ []) names others (which + 2) again told (omega (arith, near)) rest
+
+again_late : (seen : List (List ℕ)) (which : ℕ) (names : List (List ℕ)) (again : ℕ) → again_from seen which names ≡ Some again → which ≤ again
+again_late seen which [] again is = cc
+again_late seen which (n ∷ names) again is = by_first (is_one_of seen n) is
+  where
+    by_first : (test : Bool) → (if test then Some which else again_from (seen ++ n ∷ []) (which + 2) names) ≡ Some again → which ≤ again
+    by_first true told = let same : which ≡ again = same_Some which again told in omega (arith, same)
+    by_first false told = let later = again_late (seen ++ n ∷ []) (which + 2) names again told in omega (arith, later)
+
 -- ---- a line as a whole
 
-pub none_taken : (given : List ℕ) (told : Option LineFault) → ¬ HasLongAct given → IfSome told (IsWrong 1 (Some slot.Moment) (line_words given))
-    → (IsTrue (is_none told) → Follow (Some slot.Moment) (line_words given)) → IsTrue (is_none told) ↔ IsTaken given
-none_taken given None short wrong follow = (λ none. follow_taken given short (follow none), λ taken. refl)
-none_taken given (Some told) short wrong follow = (λ none. cc, λ taken. absurd (wrong_follow 1 (Some slot.Moment) (line_words given) told wrong (taken_follows given taken)))
+-- a line whose words follow each other is taken exactly if it names no activity again
+pub none_again_taken : (given : List ℕ) (again : Option ℕ) → ¬ HasLongAct given → Follow (Some slot.Moment) (line_words given)
+    → again ≡ named_again (line_words given) → IsTrue (is_none again) ↔ IsTaken given
+none_again_taken given None short follow is = (λ none. follow_taken given short follow (sym is), λ taken. refl)
+none_again_taken given (Some which) short follow is = (λ none. cc, λ taken. let bad : ◌≡◌ {A = Option ℕ} (Some which) None = is ∙ taken_apart given taken in cc)
+
+pub wrong_taken : (given : List ℕ) (told : LineFault) → IsWrong 1 (Some slot.Moment) (line_words given) told → IsTaken given → ⊥
+wrong_taken given told wrong taken = wrong_follow 1 (Some slot.Moment) (line_words given) told wrong (taken_follows given taken)
+
 
 pub wrong_tells : (given : List ℕ) (told : Option LineFault) → ¬ HasLongAct given → IfSome told (IsWrong 1 (Some slot.Moment) (line_words given)) → IfSome told (Tells given)
 wrong_tells given None short wrong = wrong
@@ -99,6 +148,7 @@ wrong_tells given (Some fault.TooLong) short wrong = absurd (let from = place_fr
 wrong_tells given (Some (fault.Word which at)) short wrong = (short, wrong)
 wrong_tells given (Some (fault.Missing which at)) short wrong = (short, wrong)
 wrong_tells given (Some (fault.Extra which)) short wrong = (short, wrong)
+wrong_tells given (Some (fault.Twice which)) short wrong = absurd (no_twice 1 (Some slot.Moment) (line_words given) which wrong)
 
 pub wrong_blamed : (given : List ℕ) (told : Option LineFault) → IfSome told (IsWrong 1 (Some slot.Moment) (line_words given)) → IfSome told (Blames given)
 wrong_blamed given None wrong = wrong
