@@ -18,20 +18,30 @@ use Rattle.tc_types.specs.declared.requests.Command.TheVariants as command
 use Rattle.tc_types.specs.declared.acts.BookAct.TheVariants.{Approve, ApproveStack, Begin, Close, Enter, Withdraw}
 use Rattle.tc_types.specs.declared.link.directives.Directive.TheVariants as directive
 use Rattle.tc_types.specs.declared.acts.LinkAct.TheVariants as link_act
+use Rattle.tc_types.specs.declared.air.AirAct.TheVariants as air_act
+use Rattle.tc_types.specs.declared.air.AirItem.TheVariants as item
+use Rattle.tc_types.specs.declared.link.heard.HeardItem.TheVariants as heard
+use Rattle.tc_types.specs.declared.link.heard.HeardReport.TheVariants as report
 use Rattle.tc_types.specs.declared.acts.Act.{Act}
 use Rattle.tc_types.specs.declared.acts.Act.TheVariants as act
 use Rattle.tc_types.specs.declared.acts.Query.TheVariants as query
 use Rattle.tc_types.specs.declared.link.reports.Verification.TheVariants as verification
 use Rattle.tc_types.specs.Grammar.{outcome_word}
 use Rattle.tc_types.specs.ActGrammar.{act_text, line_text}
-use Rattle.tc_types.specs.Limits.{most_requests, most_moves, most_stacks, most_stack_rows, most_procedures, most_steps, most_executions, most_activities, last_moment, longest_act, longest_name, longest_step_text}
+use Rattle.tc_types.specs.Limits.{most_requests, most_moves, most_stacks, most_stack_rows, most_procedures, most_steps, most_executions, most_activities, last_moment, longest_act, longest_name, longest_step_text, longest_post, most_items}
 use Rattle.tc_types.specs.Lines.{move_line, refusal_line, identity_word, entered_line, stack_line, history_line, places_line}
+use Rattle.tc_types.specs.AirLines.{ad_frame_line, unlock_frame_line, set_vr_frame_line, air_head_line}
+use Rattle.tc_types.specs.PostGrammar.{post_text}
 use Rattle.tc_types.specs.Loads.{load_text}
 use Rattle.tc_types.specs.declared.loads.LoadKind.TheVariants as kind
 use Rattle.tc_types.specs.declared.verdicts.Verdict.TheVariants as verdict
 use Rattle.tc_types.specs.ProcedureLines.{procedure_line, begun_line, execution_line, record_line}
 use Rattle.tc_types.specs.LinkLines.{word_line, verified_line, summarized_line, worked_line, time_line, mirror_line, activity_line}
 use Rattle.tc_types.specs.RequestLine.{request_line}
+
+-- the last identity of an application process
+abbrev last_identity : Identity
+last_identity = record { apid = 5; count = 16383 }
 
 -- every report is asked for
 abbrev all : Ack
@@ -179,6 +189,56 @@ pub link_acts-spelled : map act_text (
 unfolding digits
 link_acts-spelled = refl
 
+-- acts of a front end
+pub air_acts-spelled : map act_text (
+    act.Air air_act.Transmit
+    ∷ act.Air air_act.Quiet
+    ∷ act.Air (air_act.Hear (heard.Word 0x010c0001))
+    ∷ act.Air (air_act.Hear (heard.Word 0))
+    ∷ act.Air (air_act.Hear (heard.Report (report.Verification (verification.StepFailed 2 17) last_identity)))
+    ∷ act.Air (air_act.Hear (heard.Report (report.Verification verification.Completed (record { apid = 0; count = 0 }))))
+    ∷ act.Air (air_act.Hear (heard.Report (report.Summary None [])))
+    ∷ act.Air (air_act.Hear (heard.Report (report.Summary (Some false) (record { identity = last_identity; time = 1060 } ∷ []))))
+    ∷ []) ≡
+    codes "transmit"
+    ∷ codes "quiet"
+    ∷ codes "hear 010c0001"
+    ∷ codes "hear 00000000"
+    ∷ codes "hear tm 1,6 5/16383 step 2 code 17"
+    ∷ codes "hear tm 1,7 0/0 step 0 code 0"
+    ∷ codes "hear tm 11,13 - 0"
+    ∷ codes "hear tm 11,13 disabled 1 5/16383 1060"
+    ∷ []
+unfolding digits
+air_acts-spelled = refl
+
+-- a post of two items, and one that only asks
+pub posts-spelled : map post_text (
+    record {
+      head = record { service = record { opening = 1; start = 2 }; index = 7; moment = 100; by = codes "gate" };
+      items = item.Tick ∷ item.Act (air_act.Hear (heard.Word 0x010c0001)) ∷ [];
+    }
+    ∷ record { head = record { service = record { opening = 0; start = 0 }; index = 0; moment = 0; by = codes "gate" }; items = [] }
+    ∷ []) ≡
+    codes "air 1.2 7 100 gate\ntick\nhear 010c0001\n"
+    ∷ codes "air 0.0 0 0 gate\n"
+    ∷ []
+unfolding digits
+posts-spelled = refl
+
+pub air_lines-printed : air_head_line (record { service = record { opening = 1; start = 2 }; had = 7; state = 1; queue = 3; quiet = false; profile = 0x0a1f })
+    ∷ ad_frame_line 255 last_identity (0x20 ∷ 0x0f ∷ 0 ∷ [])
+    ∷ unlock_frame_line (0xff ∷ [])
+    ∷ set_vr_frame_line 10 []
+    ∷ [] ≡
+    codes "air 1.2 had 7 state S1 queue 3 quiet no profile 0a1f"
+    ∷ codes "ok frame ad 255 5/16383 200f00"
+    ∷ codes "ok frame unlock ff"
+    ∷ codes "ok frame setvr 10 "
+    ∷ []
+unfolding digits
+air_lines-printed = refl
+
 pub line-spelled : line_text (record { moment = 4102444799; by = codes "abcdefghij012345"; act = act.Book (Withdraw 7) }) ≡
     codes "4102444799 abcdefghij012345 withdraw 7"
 unfolding digits
@@ -220,10 +280,6 @@ entry-printed = refl
 pub refusal-printed : refusal_line refusal.WrongPlace ≡ codes "refused 3 WrongPlace"
 unfolding digits
 refusal-printed = refl
-
--- the last identity of an application process
-abbrev last_identity : Identity
-last_identity = record { apid = 5; count = 16383 }
 
 pub identity-printed : identity_word last_identity ≡ codes "5/16383"
 unfolding digits
@@ -315,6 +371,6 @@ pub schedule-printed : worked_line (record { apid = 5; count = 1 }) ∷ time_lin
 unfolding digits
 schedule-printed = refl
 
-pub limits-written : most_requests ∷ most_moves ∷ most_stacks ∷ most_stack_rows ∷ most_procedures ∷ most_steps ∷ most_executions ∷ most_activities ∷ last_moment ∷ longest_act ∷ longest_name ∷ longest_step_text ∷ [] ≡
-    65535 ∷ 990000 ∷ 1000 ∷ 200 ∷ 1000 ∷ 100 ∷ 10000 ∷ 64 ∷ 4102444799 ∷ 200 ∷ 16 ∷ 80 ∷ []
+pub limits-written : most_requests ∷ most_moves ∷ most_stacks ∷ most_stack_rows ∷ most_procedures ∷ most_steps ∷ most_executions ∷ most_activities ∷ last_moment ∷ longest_act ∷ longest_name ∷ longest_step_text ∷ longest_post ∷ most_items ∷ [] ≡
+    65535 ∷ 990000 ∷ 1000 ∷ 200 ∷ 1000 ∷ 100 ∷ 10000 ∷ 64 ∷ 4102444799 ∷ 200 ∷ 16 ∷ 80 ∷ 65536 ∷ 256 ∷ []
 limits-written = refl

@@ -1,6 +1,6 @@
 -- What is told of words that do not follow each other.
-use Rattle.std.proofs.Common.{◌≡◌, ℕ, zero, suc, ◌+◌, ◌<◌, ◌≤◌, Option, Some, None, List, [], ◌∷◌, length, get_or, take, drop, refl, ap, inl, inr, subst, arith, eqb}
-use Rattle.std.specs.Prelude.{◌↔◌, IfSome, IsTrue, is_none}
+use Rattle.std.proofs.Common.{◌≡◌, ◌∙◌, ℕ, zero, suc, ◌+◌, ◌-◌, ◌*◌, ◌<◌, ◌≤◌, Bool, true, false, if◌then◌else◌, Option, Some, None, List, [], ◌∷◌, ◌++◌, length, get_or, take, drop, refl, sym, ap, inl, inr, subst, arith, eqb}
+use Rattle.std.specs.Prelude.{◌↔◌, ◌&&◌, IfSome, IsTrue, is_none, codes}
 use Rattle.std.proofs.lemmas.List.Sums.{count_by-le-length}
 use Rattle.std.proofs.lemmas.List.Splits.{length-slice_split}
 use Rattle.tc_types.specs.ActGrammar.{HasLongAct}
@@ -12,7 +12,8 @@ use Rattle.tc_script.specs.Slots.{behind}
 use Rattle.tc_script.specs.Fits.{Fits}
 use Rattle.tc_script.specs.Faults.{Blames, Follow, IsTaken, IsWrong, NoneBegins, Tells, line_words}
 use Rattle.tc_script.specs.Fits.{is_one_of}
-use Rattle.tc_script.specs.NameRules.{again_from, named_again}
+use Rattle.tc_script.specs.NameRules.{again_from, hears_summary, named_again, names_of}
+use Rattle.tc_script.specs.Verbs.{same as equal}
 use Rattle.std.proofs.lemmas.Option.{same_Some}
 use Rattle.tc_script.proofs.LineWords.{follow_taken, taken_apart, taken_follows}
 
@@ -101,6 +102,15 @@ few_words given = let many = length-slice_split (λ byte. eqb byte 32) given in 
 
 -- ---- a name that comes again
 
+-- it stands at the first of these words or after it, by an even number of words
+again_late : (seen : List (List ℕ)) (which : ℕ) (names : List (List ℕ)) (again : ℕ) → again_from seen which names ≡ Some again → which ≤ again
+again_late seen which [] again is = cc
+again_late seen which (n ∷ names) again is = by_first (is_one_of seen n) is
+  where
+    by_first : (test : Bool) → (if test then Some which else again_from (seen ++ n ∷ []) (which + 2) names) ≡ Some again → which ≤ again
+    by_first true told = let same : which ≡ again = same_Some which again told in omega (arith, same)
+    by_first false told = let later = again_late (seen ++ n ∷ []) (which + 2) names again told in omega (arith, later)
+
 -- a name that comes again is among the first words of the line, up to its own
 again_early : (many : ℕ) (seen names others : List (List ℕ)) (which again : ℕ) → again_from seen which names ≡ Some again → again < which + 2 * many
     → take many names ≡ take many others → again_from seen which others ≡ Some again
@@ -108,7 +118,6 @@ again_early zero seen names others which again is near alike = absurd (let from 
 again_early (suc many) seen [] others which again is near alike = cc
 again_early (suc many) seen (n ∷ names) [] which again is near alike = cc
 again_early (suc many) seen (n ∷ names) (o ∷ others) which again is near alike =
-    let first : n ≡ o = ap (λ (l : List (List ℕ)). get_or l 0 n) alike in
     let rest : take many names ≡ take many others = ap (drop 1) alike in
     by_first (is_one_of seen n) refl is rest
   where
@@ -122,13 +131,56 @@ again_early (suc many) seen (n ∷ names) (o ∷ others) which again is near ali
         ∙ ap (λ (w : List ℕ). again_from (seen ++ w ∷ []) (which + 2) others) (sym first_is)
         ∙ again_early many (seen ++ n ∷ []) names others (which + 2) again told (omega (arith, near)) rest
 
-again_late : (seen : List (List ℕ)) (which : ℕ) (names : List (List ℕ)) (again : ℕ) → again_from seen which names ≡ Some again → which ≤ again
-again_late seen which [] again is = cc
-again_late seen which (n ∷ names) again is = by_first (is_one_of seen n) is
+again_even : (seen : List (List ℕ)) (which : ℕ) (names : List (List ℕ)) (again : ℕ) → again_from seen which names ≡ Some again → (k : ℕ) × (again ≡ which + 2 * k)
+again_even seen which [] again is = cc
+again_even seen which (n ∷ names) again is = by_first (is_one_of seen n) is
   where
-    by_first : (test : Bool) → (if test then Some which else again_from (seen ++ n ∷ []) (which + 2) names) ≡ Some again → which ≤ again
-    by_first true told = let same : which ≡ again = same_Some which again told in omega (arith, same)
-    by_first false told = let later = again_late (seen ++ n ∷ []) (which + 2) names again told in omega (arith, later)
+    by_first : (test : Bool) → (if test then Some which else again_from (seen ++ n ∷ []) (which + 2) names) ≡ Some again → (k : ℕ) × (again ≡ which + 2 * k)
+    by_first true told = let same : which ≡ again = same_Some which again told in (0, omega (arith, same))
+    by_first false told = let (k, is) = again_even (seen ++ n ∷ []) (which + 2) names again told in (suc k, omega (arith, is))
+
+-- the word at a place is one of the first words, if there are more of them
+at_take : (n i : ℕ) (ws : List (List ℕ)) → i < n → get_or (take n ws) i [] ≡ get_or ws i []
+at_take zero i ws low = absurd (omega (arith, low))
+at_take (suc n) i [] low = refl
+at_take (suc n) zero (w ∷ ws) low = refl
+at_take (suc n) (suc i) (w ∷ ws) low = at_take n i ws (omega (arith, low))
+
+drop_take : (n many : ℕ) (ws : List (List ℕ)) → drop n (take (n + many) ws) ≡ take many (drop n ws)
+drop_take zero many ws = refl
+drop_take (suc n) many [] = refl
+drop_take (suc n) many (w ∷ ws) = drop_take n many ws
+
+-- the first names are those of the first words
+names_take : (k : ℕ) (xs ys : List (List ℕ)) → take (2 * k + 1) xs ≡ take (2 * k + 1) ys → take (suc k) (names_of xs) ≡ take (suc k) (names_of ys)
+names_take k xs ys alike = sym (first_names k xs) ∙ ap (λ ws. take (suc k) (names_of ws)) alike ∙ first_names k ys
+  where
+    first_names : (k : ℕ) (ws : List (List ℕ)) → take (suc k) (names_of (take (2 * k + 1) ws)) ≡ take (suc k) (names_of ws)
+    first_names k [] = refl
+    first_names zero (w ∷ []) = refl
+    first_names zero (w ∷ v ∷ ws) = refl
+    first_names (suc k) (w ∷ []) = refl
+    first_names (suc k) (w ∷ v ∷ ws) = ap (λ l. w ∷ l) (first_names k ws)
+
+-- a line that names an activity again begins as no line that is taken, up to the word that does
+pub twice_blames : (given : List ℕ) (which : ℕ) → named_again (line_words given) ≡ Some which → NoneBegins which given
+twice_blames given which is other taken same = by_summary (hears_summary (line_words given)) refl is
+  where
+    by_summary : (test : Bool) → hears_summary (line_words given) ≡ test → again_from [] 8 (if test then names_of (drop 7 (line_words given)) else []) ≡ Some which → ⊥
+    by_summary false no told = cc
+    by_summary true summary told =
+        let (k, even) = again_even [] 8 (names_of (drop 7 (line_words given))) which told in
+        let word : (i : ℕ) → i < 8 → get_or (line_words given) i [] ≡ get_or (line_words other) i [] =
+        λ i low. sym (at_take which i (line_words given) (omega (arith, low, even))) ∙ ap (λ ws. get_or ws i []) (sym same) ∙ at_take which i (line_words other) (omega (arith, low, even)) in
+        let hears : hears_summary (line_words other) ≡ true =
+        sym ((λ i. equal (word 2 (omega arith) i) (codes "hear") && equal (word 3 (omega arith) i) (codes "tm") && equal (word 4 (omega arith) i) (codes "11,13"))) ∙ summary in
+        let far : which ≡ 7 + (2 * k + 1) = omega (arith, even) in
+        let alike : take (2 * k + 1) (drop 7 (line_words given)) ≡ take (2 * k + 1) (drop 7 (line_words other)) =
+        sym (drop_take 7 (2 * k + 1) (line_words given)) ∙ ap (drop 7) (subst (λ n. take n (line_words given) ≡ take n (line_words other)) far (sym same)) ∙ drop_take 7 (2 * k + 1) (line_words other) in
+        let again : again_from [] 8 (names_of (drop 7 (line_words other))) ≡ Some which =
+        again_early (suc k) [] (names_of (drop 7 (line_words given))) (names_of (drop 7 (line_words other))) 8 which told (omega (arith, even)) (names_take k _ _ alike) in
+        let none : again_from [] 8 (if hears_summary (line_words other) then names_of (drop 7 (line_words other)) else []) ≡ None = taken_apart other taken in
+        let bad : ◌≡◌ {A = Option ℕ} (Some which) None = sym again ∙ subst (λ t. again_from [] 8 (if t then names_of (drop 7 (line_words other)) else []) ≡ None) hears none in cc
 
 -- ---- a line as a whole
 
@@ -153,3 +205,9 @@ wrong_tells given (Some (fault.Twice which)) short wrong = absurd (no_twice 1 (S
 pub wrong_blamed : (given : List ℕ) (told : Option LineFault) → IfSome told (IsWrong 1 (Some slot.Moment) (line_words given)) → IfSome told (Blames given)
 wrong_blamed given None wrong = wrong
 wrong_blamed given (Some told) wrong = wrong_blames given told wrong
+
+-- what is told of a name that comes again is true
+pub twice_tells : (given : List ℕ) (again : Option ℕ) → ¬ HasLongAct given → Follow (Some slot.Moment) (line_words given) → again ≡ named_again (line_words given)
+    → IfSome again (λ (which : ℕ). Tells given (fault.Twice which) × Blames given (fault.Twice which))
+twice_tells given None short follow is = tt
+twice_tells given (Some which) short follow is = ((short, follow, sym is), twice_blames given which (sym is))
