@@ -101,6 +101,7 @@ none_next given old left count total places has below next activities are long i
     by_rest known (first ∷ others) at =
         let one : IsHeardActivity first = (subst (AllByRecursion IsHeardActivity) at (each_after IsHeardActivity count activities are.1)).0 in
         none-some first (next first (activities_words others) one (known.2 ∙ ap activities_words at)).0
+
     length_drop : (n : ℕ) (xs : List HeardActivity) → length xs ≤ n + length (drop n xs)
     length_drop n [] = omega arith
     length_drop zero (x ∷ xs) = omega arith

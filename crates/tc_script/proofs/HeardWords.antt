@@ -38,10 +38,10 @@ count_in_is : (n : ℕ) → n ≤ 64 → count_in (decimal n) ≡ n
 count_in_is n few = ⊎_elim
     (λ (one : n < 10). ap count_in (decimal_digit n one) ∙ (let less : 48 + n - 48 ≡ n = omega arith in less))
     (λ (two : 10 ≤ n).
-        let digits_are : decimal n ≡ (48 + n / 10) ∷ (48 + n % 10) ∷ [] =
-        decimal_step n two (omega (arith, few)) ∙ ap (λ (l : List ℕ). l ++ (48 + n % 10) ∷ []) (decimal_digit (n / 10) (omega (arith, few))) in
-        let sum : (48 + n / 10 - 48) * 10 + (48 + n % 10 - 48) ≡ n = omega arith in
-        ap count_in digits_are ∙ sum)
+    let digits_are : decimal n ≡ (48 + n / 10) ∷ (48 + n % 10) ∷ [] =
+    decimal_step n two (omega (arith, few)) ∙ ap (λ (l : List ℕ). l ++ (48 + n % 10) ∷ []) (decimal_digit (n / 10) (omega (arith, few))) in
+    let sum : (48 + n / 10 - 48) * 10 + (48 + n % 10 - 48) ≡ n = omega arith in
+    ap count_in digits_are ∙ sum)
     (cases_lt n 10)
 
 -- ---- the words of something that was heard
@@ -156,10 +156,11 @@ bare_from : (word : List ℕ) (rest : List (List ℕ)) (v : Verification) (subty
 bare_from word rest v subtype no_step no_code words kept f =
     let told = verified_from subtype rest f in
     let step : told.step ≡ codes "0" = subst (λ (b : Bool). FitsIf b told.step) no_step told.step_fits in
-    let code : told.code ≡ codes "0" = subst (λ (b : Bool). FitsIf b told.code) no_code told.code_fits in
-    (report.Verification v told.identity,
-    ap (λ (ws : List (List ℕ)). word ∷ ws) (told.are ∙ (λ i. identity_word told.identity ∷ codes "step" ∷ step i ∷ codes "code" ∷ code i ∷ [])) ∙ sym (words told.identity),
-    (kept, told.named))
+    let code : told.code ≡ codes "0" = subst (λ (b : Bool). FitsIf b told.code) no_code told.code_fits in (
+      report.Verification v told.identity,
+      ap (λ (ws : List (List ℕ)). word ∷ ws) (told.are ∙ (λ i. identity_word told.identity ∷ codes "step" ∷ step i ∷ codes "code" ∷ code i ∷ [])) ∙ sym (words told.identity),
+      (kept, told.named),
+    )
 
 -- one with a code alone
 code_from : (word : List ℕ) (rest : List (List ℕ)) (make : ℕ → Verification) (subtype : ℕ) → has_step subtype ≡ false → has_code subtype ≡ true
@@ -168,29 +169,32 @@ code_from : (word : List ℕ) (rest : List (List ℕ)) (make : ℕ → Verificat
 code_from word rest make subtype no_step has words kept f =
     let told = verified_from subtype rest f in
     let step : told.step ≡ codes "0" = subst (λ (b : Bool). FitsIf b told.step) no_step told.step_fits in
-    let (code, code_is, small) = subst (λ (b : Bool). FitsIf b told.code) has told.code_fits in
-    (report.Verification (make code) told.identity,
-    ap (λ (ws : List (List ℕ)). word ∷ ws) (told.are ∙ (λ i. identity_word told.identity ∷ codes "step" ∷ step i ∷ codes "code" ∷ code_is i ∷ [])) ∙ sym (words told.identity code),
-    (kept code small, told.named))
+    let (code, code_is, small) = subst (λ (b : Bool). FitsIf b told.code) has told.code_fits in (
+      report.Verification (make code) told.identity,
+      ap (λ (ws : List (List ℕ)). word ∷ ws) (told.are ∙ (λ i. identity_word told.identity ∷ codes "step" ∷ step i ∷ codes "code" ∷ code_is i ∷ [])) ∙ sym (words told.identity code),
+      (kept code small, told.named),
+    )
 
 step_done_from : (rest : List (List ℕ)) → Follow (Some (slot.Verified 5)) rest → ReportFrom (codes "1,5" ∷ rest)
 unfolding digits
 step_done_from rest f =
     let told = verified_from 5 rest f in
-    let (step, step_is, small) = told.step_fits in
-    (report.Verification (verification.StepDone step) told.identity,
-    ap (λ (ws : List (List ℕ)). codes "1,5" ∷ ws) (told.are ∙ (λ i. identity_word told.identity ∷ codes "step" ∷ step_is i ∷ codes "code" ∷ told.code_fits i ∷ [])),
-    ((small, omega arith), told.named))
+    let (step, step_is, small) = told.step_fits in (
+      report.Verification (verification.StepDone step) told.identity,
+      ap (λ (ws : List (List ℕ)). codes "1,5" ∷ ws) (told.are ∙ (λ i. identity_word told.identity ∷ codes "step" ∷ step_is i ∷ codes "code" ∷ told.code_fits i ∷ [])),
+      ((small, omega arith), told.named),
+    )
 
 step_failed_from : (rest : List (List ℕ)) → Follow (Some (slot.Verified 6)) rest → ReportFrom (codes "1,6" ∷ rest)
 unfolding digits
 step_failed_from rest f =
     let told = verified_from 6 rest f in
     let (step, step_is, small) = told.step_fits in
-    let (code, code_is, less) = told.code_fits in
-    (report.Verification (verification.StepFailed step code) told.identity,
-    ap (λ (ws : List (List ℕ)). codes "1,6" ∷ ws) (told.are ∙ (λ i. identity_word told.identity ∷ codes "step" ∷ step_is i ∷ codes "code" ∷ code_is i ∷ [])),
-    ((small, less), told.named))
+    let (code, code_is, less) = told.code_fits in (
+      report.Verification (verification.StepFailed step code) told.identity,
+      ap (λ (ws : List (List ℕ)). codes "1,6" ∷ ws) (told.are ∙ (λ i. identity_word told.identity ∷ codes "step" ∷ step_is i ∷ codes "code" ∷ code_is i ∷ [])),
+      ((small, less), told.named),
+    )
 
 listed_from : (left : ℕ) (rest : List (List ℕ)) → Follow (listed left) rest
     → (activities : List HeardActivity) × (rest ≡ activities_words activities) × (length activities ≡ left) × AllByRecursion IsHeardActivity activities

@@ -35,6 +35,7 @@ same_spelled a b is on = by_cases (same (identity_word a) (identity_word b)) (is
     alike one =
         let parts = and_parts (eqb a.apid b.apid) (eqb a.count b.count) one in
         (bytes_decides (identity_word a) (identity_word b)).1 (λ i. decimal (eqb-true a.apid b.apid parts.0 i) ++ 47 ∷ decimal (eqb-true a.count b.count parts.1 i))
+
     one_name : same (identity_word a) (identity_word b) ≡ true → is_same_identity a b ≡ true
     one_name alike_is =
         let a_parted = name_parted a is in
@@ -44,6 +45,7 @@ same_spelled a b is on = by_cases (same (identity_word a) (identity_word b)) (is
         let apid : a.apid ≡ b.apid = decimal_injective a.apid b.apid (omega (arith, is.0)) (omega (arith, on.0)) cc in
         let count : a.count ≡ b.count = decimal_injective a.count b.count (omega (arith, is.1)) (omega (arith, on.1)) cc in
         rw (eq-eqb a.apid b.apid apid, eq-eqb a.count b.count count) refl
+
     by_cases : (x y : Bool) → same (identity_word a) (identity_word b) ≡ x → is_same_identity a b ≡ y → x ≡ y
     by_cases true true e f = refl
     by_cases true false e f = sym (one_name e) ∙ f

@@ -123,6 +123,7 @@ again_early (suc many) seen (n ∷ names) (o ∷ others) which again is near ali
   where
     first_is : n ≡ o
     first_is = ap (λ (l : List (List ℕ)). get_or l 0 n) alike
+
     by_first : (test : Bool) → is_one_of seen n ≡ test → (if test then Some which else again_from (seen ++ n ∷ []) (which + 2) names) ≡ Some again
         → take many names ≡ take many others → again_from seen which (o ∷ others) ≡ Some again
     by_first true there told rest = (ap (λ (t : Bool). if t then Some which else again_from (seen ++ o ∷ []) (which + 2) others) (ap (is_one_of seen) (sym first_is) ∙ there)) ∙ told
@@ -192,7 +193,6 @@ none_again_taken given (Some which) short follow is = (λ none. cc, λ taken. le
 
 pub wrong_taken : (given : List ℕ) (told : LineFault) → IsWrong 1 (Some slot.Moment) (line_words given) told → IsTaken given → ⊥
 wrong_taken given told wrong taken = wrong_follow 1 (Some slot.Moment) (line_words given) told wrong (taken_follows given taken)
-
 
 pub wrong_tells : (given : List ℕ) (told : Option LineFault) → ¬ HasLongAct given → IfSome told (IsWrong 1 (Some slot.Moment) (line_words given)) → IfSome told (Tells given)
 wrong_tells given None short wrong = wrong

@@ -22,13 +22,13 @@ onto_append : (k n : ℕ) (acc : List ℕ) → digits_onto k 16 false n acc ≡ 
 onto_append zero n acc = refl
 onto_append (suc k) n acc = ⊎_elim
     (λ (small : n / 16 < 1).
-        let last : n / 16 ≡ 0 = omega arith in
-        digits_onto_last 16 false n acc (suc k) (omega arith) last ∙ sym (ap (λ (l : List ℕ). l ++ acc) (digits_onto_last 16 false n [] (suc k) (omega arith) last)))
+    let last : n / 16 ≡ 0 = omega arith in
+    digits_onto_last 16 false n acc (suc k) (omega arith) last ∙ sym (ap (λ (l : List ℕ). l ++ acc) (digits_onto_last 16 false n [] (suc k) (omega arith) last)))
     (λ (large : 1 ≤ n / 16).
-        let some : (n / 16 ≡ 0 → ⊥) = λ z. omega (arith, large, z) in
-        let glyph : List ℕ = digit_glyph false (n % 16) ∷ [] in
-        one_more k n acc some ∙ onto_append k (n / 16) (digit_glyph false (n % 16) ∷ acc)
-        ∙ sym (ap (λ (l : List ℕ). l ++ acc) (one_more k n [] some ∙ onto_append k (n / 16) glyph) ∙ append_assoc (digits_onto k 16 false (n / 16) []) glyph acc))
+    let some : (n / 16 ≡ 0 → ⊥) = λ z. omega (arith, large, z) in
+    let glyph : List ℕ = digit_glyph false (n % 16) ∷ [] in
+    one_more k n acc some ∙ onto_append k (n / 16) (digit_glyph false (n % 16) ∷ acc)
+    ∙ sym (ap (λ (l : List ℕ). l ++ acc) (one_more k n [] some ∙ onto_append k (n / 16) glyph) ∙ append_assoc (digits_onto k 16 false (n / 16) []) glyph acc))
     (cases_lt (n / 16) 1)
 
 zeros_more : (count : ℕ) → replicate count 48 ++ 48 ∷ [] ≡ replicate (suc count) 48
@@ -44,9 +44,9 @@ padded : (count k n : ℕ) → count ≤ k → HasDigits (suc count) n
     → replicate (suc count - length (digits_onto (suc k) 16 false n [])) 48 ++ digits_onto (suc k) 16 false n [] ≡ hex_digits (suc count) n
 padded count k n few has = ⊎_elim
     (λ (small : n / 16 < 1).
-        let last : n / 16 ≡ 0 = omega arith in
-        let one : suc count - 1 ≡ count = omega arith in
-        rw (digits_onto_last 16 false n [] (suc k) (omega arith) last, one, last) (ap (λ (l : List ℕ). l ++ digit_glyph false (n % 16) ∷ []) (sym (zeros_are count))))
+    let last : n / 16 ≡ 0 = omega arith in
+    let one : suc count - 1 ≡ count = omega arith in
+    rw (digits_onto_last 16 false n [] (suc k) (omega arith) last, one, last) (ap (λ (l : List ℕ). l ++ digit_glyph false (n % 16) ∷ []) (sym (zeros_are count))))
     (λ (large : 1 ≤ n / 16). by_more count k few has large)
     (cases_lt (n / 16) 1)
   where

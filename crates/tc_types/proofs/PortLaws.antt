@@ -60,16 +60,21 @@ taken_orderly post at taken so = record {
   where
     next : Port
     next = record { service = at.service; had = post.head.index; done = at.done ++ numbered post 0 post.items }
+
     facts : (post.head.service.opening ≡ at.service.opening) × (post.head.service.start ≡ at.service.start) × (at.had < post.head.index)
     facts = taken_is post at taken
+
     new_after : (old : Done) → IsHad at old → (d : Done) → IsOf post 0 d → Before old d
     new_after old had d is =
         let start : d.service.start ≡ post.head.service.start = ap (λ (s : AirService). s.start) is.service in
         (omega (arith, had.start, start, facts.1), inl (omega (arith, had.index, is.index, facts.2)))
+
     after : (old : Done) → IsHad at old → AllByRecursion (Before old) (numbered post 0 post.items)
     after old had = each_so (new_after old had) (numbered post 0 post.items) (numbered_of post 0 post.items)
+
     still : (old : Done) → IsHad at old → IsHad next old
     still old had = record { opening = had.opening; start = had.start; index = omega (arith, had.index, facts.2) }
+
     new : (d : Done) → IsOf post 0 d → IsHad next d
     new d is =
         let opening : d.service.opening ≡ post.head.service.opening = ap (λ (s : AirService). s.opening) is.service in
