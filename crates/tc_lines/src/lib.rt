@@ -5,6 +5,7 @@
 pub mod print;
 pub mod read;
 
+pub use print::frame_texts::{ad_frame_text, set_vr_frame_text, unlock_frame_text};
 pub use print::link_texts::{
     accepted_text, activity_text, mirror_text, summarized_text, time_text, verified_text,
     word_text, worked_text,

@@ -1,4 +1,5 @@
 //! Lines that are printed.
+pub mod frame_texts;
 pub mod link_texts;
 pub mod list_texts;
 pub mod procedure_texts;
