@@ -1,8 +1,9 @@
 -- No line that tells a frame has an LF in it.
-use Rattle.std.proofs.Common.{◌≡◌, ℕ, zero, suc, ◌/◌, ◌%◌, ◌^◌, ◌<◌, Bool, true, false, eqb, ltb, IsTrue, List, [], ◌∷◌, ◌++◌, refl, ⊎_elim, arith}
+use Rattle.std.proofs.Common.{◌≡◌, ◌∙◌, ℕ, zero, suc, ◌-◌, ◌/◌, ◌%◌, ◌^◌, ◌<◌, Bool, true, false, eqb, ltb, IsTrue, List, [], ◌∷◌, ◌++◌, refl, ⊎_elim, arith}
 use Rattle.std.specs.Prelude.{codes}
 use Rattle.std.specs.List.{flat_map}
-use Rattle.std.specs.Fmt.{decimal, digit_glyph}
+use Rattle.std.specs.Fmt.{decimal, digits, digit_glyph, padded_integral, format_spec}
+use Rattle.std.proofs.lemmas.Fmt.{hex_byte}
 use Rattle.std.proofs.lemmas.Bool.{ne_eqb, lt-ltb, le-ltb, cases_lt}
 use Rattle.tc_types.specs.declared.requests.Identity.{Identity}
 use Rattle.tc_types.specs.Lines.{identity_word}
@@ -25,6 +26,12 @@ digits_one (suc count) n = both (hex_digits count (n / 16)) (digit_glyph false (
 octets_one : (octets : List ℕ) → lacks 10 (octets_word octets) ≡ true
 octets_one [] = refl
 octets_one (octet ∷ octets) = both (hex_digits 2 octet) (octets_word octets) (digits_one 2 octet) (octets_one octets)
+
+-- what `{:02x}` writes of an octet
+pub octet_padded : (n : ℕ) → n < 256 → padded_integral (format_spec 32 0 4 2 (2 ^ 64 - 1)) false [] (digits 16 false n) ≡ hex_digits 2 n
+octet_padded n small =
+    let high : n / 16 ≡ n / 16 % 16 = omega arith in
+    hex_byte false n small ∙ (λ i. digit_glyph false (high i) ∷ digit_glyph false (n % 16) ∷ [])
 
 pub ad_frame_one : (ns : ℕ) (identity : Identity) (octets : List ℕ) → ns < 256 → IsTrue (is_one_line (identity_word identity)) → IsTrue (is_one_line (ad_frame_line ns identity octets))
 ad_frame_one ns identity octets small one =

@@ -9,6 +9,7 @@ use std::fmt::Write;
 use tc_types::Identity;
 
 /// Adds octets, two digits each. Fails if memory is refused.
+#[tactic(auto, using(crate::proofs::FrameLines::octet_padded))]
 fn with_octets<A: Allocator + Copy>(
     mut line: String<A>,
     octets: &[u8],
