@@ -60,8 +60,8 @@ fn head(line: &[u8]) -> Option<PostHead>
 }
 
 /// What stands after `tick`.
-fn tick(words: &Words<'_>) -> Option<AirItem>
-    ensures { Reads item_words IsItem (verb_word verb.Tick ∷ words.now) result }
+fn tick(words: &mut Words<'_>) -> Option<AirItem>
+    ensures { Reads item_words IsItem (verb_word verb.Tick ∷ words.old) result }
 {
     words.end()?;
     Some(AirItem::Tick)
