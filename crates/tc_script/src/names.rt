@@ -14,8 +14,11 @@ fn after(line: &[u8], count: usize) -> Option<&[u8]>
     ensures { words_left 32 result ≡ drop count (line_words line.now) }
 {
     let mut left = Some(line);
-    for _ in 0..count {
-        let (_, rest) = cut(left?, b' ');
+    for _skipped in 0..count {
+        let Some(text) = left else {
+            return None;
+        };
+        let (_, rest) = cut(text, b' ');
         left = rest;
     }
     left
@@ -44,7 +47,7 @@ fn is_named(listed: &[u8], count: usize, name: &[u8]) -> bool
     ensures { result ≡ is_one_of (take count (names_of (words 32 listed.now))) name.now }
 {
     let mut left = Some(listed);
-    for _ in 0..count {
+    for _skipped in 0..count {
         let Some(text) = left else {
             return false;
         };

@@ -9,10 +9,12 @@ ghost use Rattle.tc_types.specs.AirLines.{hex_digits};
 fn digit(byte: u8) -> Option<u32>
     ensures { Reads (digit_glyph false) (λ d. d < 16) byte result }
 {
-    match byte {
-        b'0'..=b'9' => Some(u32::from(byte - b'0')),
-        b'a'..=b'f' => Some(u32::from(byte - b'a') + 10),
-        _ => None,
+    if b'0' <= byte && byte <= b'9' {
+        Some(u32::from(byte - b'0'))
+    } else if b'a' <= byte && byte <= b'f' {
+        Some(u32::from(byte - b'a') + 10)
+    } else {
+        None
     }
 }
 
