@@ -7,7 +7,10 @@ from model.check import KINDS, Told, limited, quoted, told_of
 from model.facts import (
     ACKS, LAST_APID, LAST_K, LAST_KIND, LAST_LIMIT, LAST_MOMENT, LAST_NUMBER, LAST_T1, LONGEST_ACT, MOST_INSERTED, PLACE_WORDS, SCHEDULE, VERDICTS, Subtype,
 )
-from model.lines import Reader, ack, between, is_answered, is_read, is_yes, listed, moment, name, number, offset, one_of, outcome, person, read_load, second
+from model.lines import (
+    STATUSES, WORD, Reader, ack, between, identity, is_answered, is_read, is_yes, listed, moment, name, number, offset, one_of, outcome, person, read_load, second,
+)
+from model.packets import FAILURES, MOST_SUMMARIZED, STEPS
 from model.refused import need
 
 
@@ -110,6 +113,39 @@ def flags(asked: str) -> Slot:
 
 ENTRY = ranged(0, LAST_APID, Slot(ack, f"{ACKS}, with - for each report that is not wanted", flags))
 
+# ---- what was heard
+
+NAMED = "a name on board, such as 5/0"
+
+
+def listed_names(left: int) -> Optional[Slot]:
+    """The names and times of so many activities."""
+    return Slot(identity, NAMED, one_moment(lambda word: listed_names(left - 1))) if left else None
+
+
+def number_if(there: bool, behind: Optional[Slot]) -> Slot:
+    """A step or a code, 0 if the report has none."""
+    return ranged(0, 255, behind) if there else Slot(one_of("0"), "0, since this report has none", behind)
+
+
+def verified(subtype: int) -> Slot:
+    """What stands behind the subtype of a report of verification."""
+    code = Slot(one_of("code"), "code", number_if(subtype in FAILURES, None))
+    return Slot(identity, NAMED, Slot(one_of("step"), "step", number_if(subtype in STEPS, code)))
+
+
+def control_word(word: str) -> str:
+    """A control word, or tm in front of a report."""
+    need(word == "tm" or WORD.fullmatch(word))
+    return word
+
+
+COUNT = Slot(between(0, MOST_SUMMARIZED), f"the number of activities, 0 to {MOST_SUMMARIZED}, in plain digits", lambda word: listed_names(int(word)))
+STATUS = Slot(one_of(*STATUSES), "enabled, disabled or -", COUNT)
+REPORTS = (*(f"1,{it}" for it in range(1, 9)), "11,13")
+REPORT = Slot(one_of(*REPORTS), "1,1 to 1,8, or 11,13", lambda word: STATUS if word == "11,13" else verified(int(word[2:])))
+HEARD = Slot(control_word, "8 digits of 0-9 and a-f, or tm", lambda word: REPORT if word == "tm" else None)
+
 # ---- acts, questions and loads
 
 BYTE, REQUEST = ranged(0, 255), numbered("a request")
@@ -128,7 +164,8 @@ VERBS: dict[str, Optional[Slot]] = {
     "begin": NAME, "step": STEP, "initiate": INITIATION, "set": Slot(one_of(*SET), "vs, k, t1 or limit", SET.get), "loseup": ITEM, "losedown": ITEM,
     "clock": one_moment(), "history": HISTORY, "log": numbered("an execution"), "report": one_moment(one_moment()), "stack": NAME._replace(behind=PATH),
     "procedure": NAME._replace(behind=PATH), "moves": AFTER, "urgent": FROM_LINE, "standing": STANDING, "steps": NAME,
-    **dict.fromkeys(("terminate", "tick", "up", "clcw", "down", "work", "places", "link", "schedule", "waiting")),
+    "hear": HEARD,
+    **dict.fromkeys(("transmit", "quiet", "terminate", "tick", "up", "clcw", "down", "work", "places", "link", "schedule", "waiting")),
 }
 LINE = one_moment(Slot(person, "a person, 1 to 16 of a-z and 0-9 and not desk", Slot(one_of(*VERBS), "an act, a question or a load", VERBS.get)))
 
@@ -168,7 +205,14 @@ def fault_of(line: str) -> str:
         if not is_read(at.read, word):
             return f", word {which}: {why_word(at, word)}"
         at = at.next(word)
-    return f", word {len(words) + 1}: missing, {at.wanted}" if at else ""
+    return f", word {len(words) + 1}: missing, {at.wanted}" if at else named_again(words)
+
+
+def named_again(words: Sequence[str]) -> str:
+    """The first name of a summary that stands before; nothing if none does."""
+    named = words[7::2] if words[2:5] == ["hear", "tm", "11,13"] else []
+    found = next((at for at, it in enumerate(named) if it in named[:at]), None)
+    return "" if found is None else f", word {8 + 2 * found}: a name that stands before: {quoted(named[found])}"
 
 
 def wrong_with(line: str) -> str:
