@@ -1,4 +1,5 @@
 pub mod EntryLemmas
+pub mod BookFlightLemmas
 pub mod ReportLemmas
 pub mod ReportBackLemmas
 pub mod ReportLawLemmas
