@@ -3,7 +3,8 @@ use Rattle.std.proofs.Common.{if◌then◌else◌, ◌≡◌, ℕ, ℤ, pos, neg
 use Rattle.std.specs.List.{AllByRecursion, list_all}
 use Rattle.std.specs.Option.{option_map}
 use Rattle.std.proofs.lemmas.Bool.Decides.{nat_tests}
-use Rattle.std.proofs.lemmas.List.{take_more, take_all, length-take, take-set_at}
+use Rattle.std.proofs.lemmas.List.{take_more, take_all, length-take}
+use Rattle.std.proofs.lemmas.Grind.{take-set_at}
 use Rattle.tc_types.specs.Inserts.{IsInsert}
 use Rattle.tc_types.specs.declared.requests.Request.{Request}
 use Rattle.tc_types.specs.declared.rides.Ride.{Ride}
