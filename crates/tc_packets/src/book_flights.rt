@@ -11,11 +11,11 @@ ghost use Rattle.tc_packets.specs.BookFlights.{activities_of, activity_of, comma
 use crate::application_data::ApplicationData;
 use crate::flights::{Flight, FlightActivities, FlightActivity, FlightTask, Plain};
 use crate::space_packets::IDLE_APID;
-use crate::times::{fits_offset, first_on_board, last_on_board};
+use crate::times::{first_on_board, fits_offset, last_on_board};
 use tc_octets::Profile;
 use tc_types::{
-    Apid, Command, Form, Identity, MOST_INSERTED, Moment, Offset, Outcome, Request, Ride, Rides, Service,
-    Subtype,
+    Apid, Command, Form, Identity, MOST_INSERTED, Moment, Offset, Outcome, Request, Ride, Rides,
+    Service, Subtype,
 };
 
 /// Returns the outcome that flies: a rehearsal spacecraft's.
