@@ -1,7 +1,9 @@
 -- Requests of a desk as they fly, and which of them fit a profile.
-use Rattle.std.specs.Prelude.{◌≡◌, ℕ, ℤ, pos, negsuc, ◌^◌, ◌==◌, Bool, true, false, not, ◌&&◌, ◌||◌, if◌then◌else◌, nat_le, nat_lt, Option, Some, None, List, [], ◌∷◌, slice_get}
+use Rattle.std.specs.Prelude.{◌≡◌, ℕ, ℤ, pos, negsuc, ◌^◌, ◌==◌, Bool, true, false, not, ◌&&◌, ◌||◌, if◌then◌else◌, nat_le, nat_lt, Option, Some, None, IfSome, List, [], ◌∷◌, slice_get}
 use Rattle.std.specs.List.{list_all}
 use Rattle.std.specs.Option.{option_map}
+use Rattle.tc_types.specs.Grammar.{IsCommand, IsOutcome}
+use Rattle.tc_types.specs.Numbers.{IsApid, IsSequenceCount}
 use Rattle.tc_types.specs.Schedule.{is_insert}
 use Rattle.tc_types.specs.declared.requests.Command.{Command}
 use Rattle.tc_types.specs.declared.requests.Command.TheVariants as command
@@ -11,6 +13,7 @@ use Rattle.tc_types.specs.declared.requests.Outcome.TheVariants.{Completes}
 use Rattle.tc_types.specs.declared.requests.Request.{Request}
 use Rattle.tc_types.specs.declared.rides.Ride.{Ride}
 use Rattle.tc_octets.specs.declared.profiles.Profile.{Profile}
+use Rattle.tc_packets.specs.Flights.{Fits}
 use Rattle.tc_packets.specs.Times.{first_on_board, last_on_board}
 use Rattle.tc_packets.specs.declared.flights.Plain.{Plain}
 use Rattle.tc_packets.specs.declared.flights.FlightActivity.{FlightActivity}
@@ -108,3 +111,18 @@ named_fits profile given r = has_name r.body.identity.apid && (not (is_insert gi
 -- a request fits, and so do those that it names
 abbrev pub request_fits : Profile → Form → List Request → Bool
 request_fits profile form named = form_fits profile form && list_all (named_fits profile form.command) named
+
+-- ---- the law
+
+-- The numbers of a request are in their ranges: those of each request that was entered are.
+pub record IsAsked (r : Request) : Type 0 where
+  pub apid : IsApid r.body.identity.apid
+  pub count : IsSequenceCount r.body.identity.count
+  pub command : IsCommand r.body.command
+  pub outcome : IsOutcome r.body.outcome
+
+-- A request that passes the tests of this profile has octets.
+abbrev pub FliesIfFit : Profile → Request → List Request → Type 0
+FliesIfFit profile r named =
+    has_name r.body.identity.apid ≡ true → command_fits profile r.body.outcome r.body.command ≡ true → list_all (named_fits profile r.body.command) named ≡ true
+    → IfSome (flight_of profile r named) (Fits profile)

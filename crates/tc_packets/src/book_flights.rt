@@ -1,12 +1,13 @@
 //! Requests of a desk as they fly, and which of them fit a profile.
-ghost use Rattle.std.specs.Prelude.{◌≡◌, ◌↔◌, ◌≤◌, length, slice_get, take, IsSome, IfSome};
-ghost use Rattle.std.specs.List.{list_all};
+ghost use Rattle.std.specs.Prelude.{◌≡◌, ◌↔◌, ◌≤◌, List, length, slice_get, take, IsSome, IfSome};
+ghost use Rattle.std.specs.List.{AllByRecursion, list_all};
 ghost use Rattle.std.specs.Option.{option_map};
 ghost use Rattle.tc_types.specs.Inserts.{IsInsert};
 ghost use Rattle.tc_types.specs.declared.requests.Request.{Request as SomeRequest};
 ghost use Rattle.tc_types.specs.declared.rides.Ride.{Ride as SomeRide};
 ghost use Rattle.tc_packets.specs.declared.flights.FlightTask.TheVariants as tasks;
-ghost use Rattle.tc_packets.specs.BookFlights.{activities_of, activity_of, command_fits, flight_of, flown_outcome, form_fits, has_name, has_offset, is_on_board, named_fits, outcome_fits, plain_of, task_of};
+ghost use Rattle.tc_octets.specs.declared.profiles.Profile.{Profile as SomeProfile};
+ghost use Rattle.tc_packets.specs.BookFlights.{FliesIfFit, IsAsked, activities_of, activity_of, command_fits, flight_of, flown_outcome, form_fits, has_name, has_offset, is_on_board, named_fits, outcome_fits, plain_of, task_of};
 
 use crate::application_data::ApplicationData;
 use crate::flights::{Flight, FlightActivities, FlightActivity, FlightTask, Plain};
@@ -214,3 +215,9 @@ pub fn named_fits(profile: &Profile, command: &Command, named: &Request) -> bool
     has_name(named.body.identity.apid)
         && (!command.is_insert() || outcome_fits(profile, &named.body.outcome))
 }
+
+/// A request that passes the tests of a profile has octets under it. This does nothing; its clause is the law.
+#[tactic(auto, using(crate::proofs::FlyableLemmas::flies_if_fit))]
+pub fn what_fits_flies()
+    ensures { (profile : SomeProfile) → (r : SomeRequest) → (named : List SomeRequest) → IsAsked r → AllByRecursion IsAsked named → FliesIfFit profile r named }
+{}
