@@ -10,6 +10,7 @@ pub mod ConservedLemmas
 pub mod TallyLemmas
 pub mod CountLemmas
 pub mod NewestLemmas
+pub mod FlightLemmas
 pub mod KeptLemmas
 pub mod CopyLemmas
 pub mod ApprovalLemmas

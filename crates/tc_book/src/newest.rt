@@ -9,7 +9,7 @@ use std::collections::HashMap;
 use std::hash::{BuildHasherDefault, FoldHasher};
 use tc_types::{Identity, Request, RequestNumber};
 
-/// The number of the newest request of each identity, which stands there as a number.
+/// The number of the newest request of each identity. An identity stands there as a number.
 pub(crate) type Newest<A> = HashMap<u32, RequestNumber, BuildHasherDefault<FoldHasher>, A>;
 
 /// Returns an identity as a number.
@@ -18,6 +18,14 @@ fn key_of(identity: &Identity) -> u32
     ensures range { identity.now.count < 16384 }
 {
     u32::from(identity.apid.get()) * 16_384 + u32::from(identity.count.get())
+}
+
+/// Returns the index of no requests.
+#[tactic(auto, using(crate::proofs::NewestLemmas::indexed_none))]
+pub(crate) fn empty_index<A: Allocator + Copy + Drop>(alloc: A) -> Newest<A>
+    ensures { IsIndexed [] result }
+{
+    HashMap::new(alloc)
 }
 
 /// Takes the memory of so many more requests. The index stays, also if memory is refused.
@@ -44,6 +52,7 @@ pub(crate) fn note_newest<A: Allocator + Copy + Drop>(newest: &mut Newest<A>, re
 }
 
 /// Returns the number of the newest request of an identity.
+#[tactic(auto, using(crate::proofs::NewestLemmas::newest_there))]
 pub(crate) fn newest_of<A: Allocator + Copy + Drop>(
     newest: &Newest<A>,
     identity: &Identity,
