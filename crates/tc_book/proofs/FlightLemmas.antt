@@ -63,11 +63,11 @@ found_in P xs n all = by_test (n == 0)
 -- of each that is named
 named_asked : (requests : List Request) (numbers : List ℕ) → AllByRecursion IsAsked requests → AllByRecursion IsAsked (filter_map (request_in requests) numbers)
 named_asked requests [] all = tt
-named_asked requests (n ∷ numbers) all = by_case (request_in requests n) (found_in IsAsked requests n all)
+named_asked requests (n ∷ numbers) all = by_case (named_asked requests numbers all) (request_in requests n) (found_in IsAsked requests n all)
   where
-    by_case : (o : Option Request) → IfSome o IsAsked → AllByRecursion IsAsked (cons_option o (filter_map (request_in requests) numbers))
-    by_case None one = named_asked requests numbers all
-    by_case (Some r) one = (one, named_asked requests numbers all)
+    by_case : AllByRecursion IsAsked (filter_map (request_in requests) numbers) → (o : Option Request) → IfSome o IsAsked → AllByRecursion IsAsked (cons_option o (filter_map (request_in requests) numbers))
+    by_case others None one = others
+    by_case others (Some r) one = (one, others)
 
 -- ---- none of them is a misfit
 

@@ -43,14 +43,16 @@ snoc : (profile : Profile) (rides : List Ride) (named : List Request) (ride : Ri
 snoc profile [] [] ride r made activity same before one = rw one (ap (option_map (λ (xs : List FlightActivity). xs ++ activity ∷ [])) before)
 snoc profile [] (y ∷ named) ride r made activity same before one = absurd (omega (arith, same))
 snoc profile (x ∷ rides) [] ride r made activity same before one = absurd (omega (arith, same))
-snoc profile (x ∷ rides) (y ∷ named) ride r made activity same before one = by_case (activity_of profile y x.time) (activities_of profile rides named) refl before
+snoc profile (x ∷ rides) (y ∷ named) ride r made activity same before one =
+    by_case (λ zs is. snoc profile rides named ride r zs activity (omega (arith, same)) is one) (activity_of profile y x.time) (activities_of profile rides named) refl before
   where
-    by_case : (o : Option FlightActivity) (os : Option (List FlightActivity)) → activities_of profile rides named ≡ os → in_front o os ≡ Some made
+    by_case : ((zs : List FlightActivity) → activities_of profile rides named ≡ Some zs → activities_of profile (rides ++ ride ∷ []) (named ++ r ∷ []) ≡ Some (zs ++ activity ∷ []))
+        → (o : Option FlightActivity) (os : Option (List FlightActivity)) → activities_of profile rides named ≡ os → in_front o os ≡ Some made
         → in_front o (activities_of profile (rides ++ ride ∷ []) (named ++ r ∷ [])) ≡ Some (made ++ activity ∷ [])
-    by_case None os is whole = absurd (cc)
-    by_case (Some z) None is whole = absurd (cc)
-    by_case (Some z) (Some zs) is whole =
-        rw (snoc profile rides named ride r zs activity (omega (arith, same)) is one) (ap (option_map (λ (xs : List FlightActivity). xs ++ activity ∷ [])) whole)
+    by_case others None os is whole = absurd (cc)
+    by_case others (Some z) None is whole = absurd (cc)
+    by_case others (Some z) (Some zs) is whole =
+        rw (others zs is) (ap (option_map (λ (xs : List FlightActivity). xs ++ activity ∷ [])) whole)
 
 pub activities_more : (profile : Profile) (rides : List Ride) (named : List Request) (k : ℕ) (places : List FlightActivity) (ride : Ride) (r : Request) (activity : FlightActivity)
     → length rides ≤ length named → length rides ≤ length places → k < length rides → ride ≡ slice_index_or rides k ride → r ≡ slice_index_or named k r
