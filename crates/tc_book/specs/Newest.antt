@@ -1,7 +1,6 @@
--- The newest request of an identity: identities come again after 16,384 requests of an application process, and a report from on board means the last.
-use Rattle.std.specs.Prelude.{◌≡◌, ℕ, ◌+◌, ◌*◌, ◌<◌, ◌==◌, if◌then◌else◌, Option, Some, None, List, fold}
+-- The newest request of an identity. An identity comes again after 16,384 requests of its application process, and a report means the last of them.
+use Rattle.std.specs.Prelude.{◌≡◌, ℕ, ◌+◌, ◌*◌, ◌<◌, ◌==◌, nat_eq, if◌then◌else◌, Option, Some, None, List, fold}
 use Rattle.std.specs.HashMap.{HashMap, get}
-use Rattle.std.specs.Prelude.{nat_eq}
 use Rattle.tc_types.specs.declared.requests.Identity.{Identity}
 use Rattle.tc_types.specs.declared.requests.Request.{Request}
 use Rattle.tc_book.specs.Book.{same_identity}

@@ -59,7 +59,8 @@ pub(crate) fn newest_of<A: Allocator + Copy + Drop>(
 ) -> Option<RequestNumber>
     ensures { (all : List SomeRequest) → IsIndexed all newest.now → result ≡ newest_of all identity.now }
 {
-    newest.get(&key_of(identity)).copied()
+    let key = key_of(identity);
+    newest.get(&key).copied()
 }
 
 /// Returns the index of these requests.
