@@ -1,5 +1,5 @@
 -- A request of a desk that passes the tests of a profile has octets under it.
-use Rattle.std.proofs.Common.{if◌then◌else◌, ◌≡◌, ℕ, ℤ, pos, negsuc, ◌+◌, ◌-◌, ◌^◌, ◌<◌, ◌≤◌, ◌==◌, ◌&&◌, ◌||◌, Bool, true, false, not, nat_le, nat_lt, min, Option, Some, None, List, [], ◌∷◌, length, IfSome, refl, subst, arith}
+use Rattle.std.proofs.Common.{if◌then◌else◌, ◌≡◌, ℕ, suc, ℤ, pos, negsuc, ◌+◌, ◌-◌, ◌^◌, ◌<◌, ◌≤◌, ◌==◌, ◌&&◌, ◌||◌, Bool, true, false, not, nat_le, nat_lt, min, Option, Some, None, List, [], ◌∷◌, length, IfSome, refl, ap, subst, arith}
 use Rattle.std.proofs.lemmas.Int.{ints}
 use Rattle.std.specs.List.{AllByRecursion, list_all}
 use Rattle.std.specs.Option.{option_map}
@@ -90,10 +90,10 @@ pub record AreFit (profile : Profile) (count : ℕ) (made : List FlightActivity)
   pub each : AllByRecursion (FitsActivity profile) made
 
 front_fits : (profile : Profile) (count : ℕ) (o : Option FlightActivity) (os : Option (List FlightActivity)) → IfSome o (FitsActivity profile) → IfSome os (AreFit profile count)
-    → IfSome (in_front o os) (AreFit profile (count + 1))
+    → IfSome (in_front o os) (AreFit profile (suc count))
 front_fits profile count None os one all = tt
 front_fits profile count (Some a) None one all = tt
-front_fits profile count (Some a) (Some others) one all = record { size = (let same = all.size in omega (arith, same)); each = (one, all.each) }
+front_fits profile count (Some a) (Some others) one all = record { size = ap suc all.size; each = (one, all.each) }
 
 activities_fit : (profile : Profile) (given : Command) (rides : List Ride) (named : List Request) → AllByRecursion IsRide rides → AllByRecursion IsAsked named
     → list_all (λ (r : Ride). is_on_board profile r.time) rides ≡ true → list_all (named_fits profile given) named ≡ true → IfSome (activities_of profile rides named) (AreFit profile (length rides))
