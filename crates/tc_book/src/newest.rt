@@ -37,7 +37,8 @@ pub(crate) fn reserve_newest<A: Allocator + Copy + Drop>(
     ensures kept { spare newest.old ≤ spare newest.new }
     ensures room { OnOk result (requests ≤ spare newest.new) }
 {
-    newest.reserve(requests)
+    newest.reserve(requests)?;
+    Ok(())
 }
 
 /// Makes a request the newest of its identity.
