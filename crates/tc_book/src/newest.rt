@@ -37,8 +37,7 @@ pub(crate) fn reserve_newest<A: Allocator + Copy + Drop>(
     ensures kept { spare newest.old ≤ spare newest.new }
     ensures room { OnOk result (requests ≤ spare newest.new) }
 {
-    newest.reserve(requests)?;
-    Ok(())
+    newest.reserve(requests)
 }
 
 /// Makes a request the newest of its identity.
@@ -49,7 +48,8 @@ pub(crate) fn note_newest<A: Allocator + Copy + Drop>(newest: &mut Newest<A>, re
     ensures room { spare newest.old ≤ spare newest.new + 1 }
 {
     let key = key_of(&request.body.identity);
-    newest.insert(key, request.number).unwrap();
+    let noted: Result<_, _> = newest.insert(key, request.number);
+    let _before = noted.unwrap();
 }
 
 /// Returns the number of the newest request of an identity.
