@@ -9,6 +9,8 @@ pub mod BatchLemmas
 pub mod ConservedLemmas
 pub mod TallyLemmas
 pub mod CountLemmas
+pub mod NewestLemmas
+pub mod FlightLemmas
 pub mod KeptLemmas
 pub mod CopyLemmas
 pub mod ApprovalLemmas

@@ -1,11 +1,12 @@
 -- What an act makes of the book, it makes step by step.
-use Rattle.std.proofs.Common.{◌≡◌, inl, inr, ℕ, Bool, true, false, if◌then◌else◌, Some, None, List, [], ◌∷◌, ◌++◌, fold, refl, subst}
+use Rattle.std.proofs.Common.{◌≡◌, inl, inr, ℕ, Bool, true, false, if◌then◌else◌, Option, Some, None, List, [], ◌∷◌, ◌++◌, fold, refl, subst}
 use Rattle.tc_types.specs.declared.history.places.Place.TheVariants.{Entered, Approved}
 use Rattle.tc_types.specs.declared.history.causes.Cause.TheVariants as cause
 use Rattle.tc_types.specs.declared.requests.Form.{Form}
 use Rattle.tc_types.specs.declared.requests.Origin.{Origin}
 use Rattle.tc_types.specs.declared.acts.BookAct.{BookAct}
 use Rattle.tc_types.specs.declared.acts.BookAct.TheVariants as act
+use Rattle.tc_octets.specs.declared.profiles.Profile.{Profile}
 use Rattle.tc_book.specs.declared.stamps.Stamp.{Stamp}
 use Rattle.tc_book.specs.Acts.{first_refusal, tests_of, acted, completes, row_approved}
 use Rattle.tc_book.specs.Book.{Book, stands, moved, want, with_request, approval_at, with_approval}
@@ -80,20 +81,20 @@ approve_stack_steps stamp book name = by_test (completes stamp.by (stack_approva
     by_test false = first
 
 -- an act that no test refuses
-pub acted_steps : (stamp : Stamp) (given : BookAct) (book : Book) → IsGoodBook book → first_refusal (tests_of stamp book given) ≡ None → HasSteps stamp book (acted stamp given book)
-acted_steps stamp (act.Enter entry) book good passes =
+pub acted_steps : (air : Option Profile) (stamp : Stamp) (given : BookAct) (book : Book) → IsGoodBook book → first_refusal (tests_of air stamp book given) ≡ None → HasSteps stamp book (acted stamp given book)
+acted_steps air stamp (act.Enter entry) book good passes =
     one_step stamp book (acted stamp (act.Enter entry) book) (inl (record { good = good; origin = None; entry = entry; is = refl }))
-acted_steps stamp (act.Withdraw n) book good passes =
-    let tests = none_holds (tests_of stamp book (act.Withdraw n)) passes in
+acted_steps air stamp (act.Withdraw n) book good passes =
+    let tests = none_holds (tests_of air stamp book (act.Withdraw n)) passes in
     one_step stamp book (acted stamp (act.Withdraw n) book) (inr (inl (record { request = n; there = not_false _ tests.1.0; is = refl })))
-acted_steps stamp (act.Approve n) book good passes =
-    let tests = none_holds (tests_of stamp book (act.Approve n)) passes in
+acted_steps air stamp (act.Approve n) book good passes =
+    let tests = none_holds (tests_of air stamp book (act.Approve n)) passes in
     approve_steps stamp book n (not_false _ tests.1.1.0)
-acted_steps stamp (act.Close n) book good passes =
-    let tests = none_holds (tests_of stamp book (act.Close n)) passes in
+acted_steps air stamp (act.Close n) book good passes =
+    let tests = none_holds (tests_of air stamp book (act.Close n)) passes in
     one_step stamp book (acted stamp (act.Close n) book) (inr (inr (inl (record { request = n; there = not_false _ tests.1.0; is = refl }))))
-acted_steps stamp (act.ApproveStack name) book good passes = approve_stack_steps stamp book name
-acted_steps stamp (act.Begin name) book good passes =
+acted_steps air stamp (act.ApproveStack name) book good passes = approve_stack_steps stamp book name
+acted_steps air stamp (act.Begin name) book good passes =
     one_step stamp book (acted stamp (act.Begin name) book) (noted stamp book (acted stamp (act.Begin name) book) (record { requests = refl; history = refl }))
 
 -- the load of a procedure

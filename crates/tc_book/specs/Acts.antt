@@ -6,12 +6,13 @@ use Rattle.std.specs.Option.{option_map_or}
 use Rattle.tc_types.specs.declared.history.places.Place.TheVariants.{Entered, Approved, Confirmed, Riding, Scheduled, Accepted, Started, Doubtful, Withdrawn, Closed}
 use Rattle.tc_types.specs.declared.history.causes.Cause.TheVariants as cause
 use Rattle.tc_types.specs.declared.refusals.Refusal.{Refusal}
-use Rattle.tc_types.specs.declared.refusals.Refusal.TheVariants.{UnknownRequest, WrongPlace, IdentityInUse, UnknownStack, UnknownProcedure, DeskFull, BadActivity}
+use Rattle.tc_types.specs.declared.refusals.Refusal.TheVariants.{UnknownRequest, WrongPlace, IdentityInUse, UnknownStack, UnknownProcedure, DeskFull, BadActivity, Unflyable}
 use Rattle.tc_types.specs.declared.requests.Command.{Command}
 use Rattle.tc_types.specs.declared.acts.BookAct.{BookAct}
 use Rattle.tc_types.specs.declared.acts.BookAct.TheVariants as act
 use Rattle.tc_types.specs.declared.acts.Query.{Query}
 use Rattle.tc_types.specs.declared.acts.Query.TheVariants as query
+use Rattle.tc_octets.specs.declared.profiles.Profile.{Profile}
 use Rattle.tc_book.specs.declared.stamps.Stamp.{Stamp}
 use Rattle.tc_book.specs.declared.firsts.First.{First}
 use Rattle.tc_book.specs.declared.firsts.First.TheVariants as first
@@ -21,6 +22,7 @@ pub use Rattle.tc_types.specs.Tests.{first_refusal}
 use Rattle.tc_stack.specs.Approvals.{ApprovalState, approved, is_complete, wanted}
 use Rattle.tc_stack.specs.Approvals as approval
 use Rattle.tc_book.specs.Targets.{is_bad_activity}
+use Rattle.tc_book.specs.Unflyable.{is_unflyable}
 use Rattle.tc_book.specs.Stacks.{is_loaded, came_with_stack, numbers_in_stack, stack_approval_at, with_stack_approval}
 use Rattle.tc_proc.specs.Logs.{begin_tests, with_execution, execution_at, procedure_at}
 
@@ -50,35 +52,36 @@ abbrev pub approvals_first : Option ApprovalState → First
 approvals_first None = first.Plain
 approvals_first (Some s) = first.Approvals (length s.persons + 1) (wanted s)
 
--- The tests of each act, in order. The first that holds is the refusal, and then nothing changes.
-abbrev pub tests_of : Stamp → Book → BookAct → List (Bool × Refusal)
-tests_of stamp book (act.Enter entry) =
+-- The tests of each act, in order. The first that holds is the refusal, and then nothing changes. A desk in the air has a profile.
+abbrev pub tests_of : Option Profile → Stamp → Book → BookAct → List (Bool × Refusal)
+tests_of air stamp book (act.Enter entry) =
     (names_unknown book entry.command, UnknownRequest)
     ∷ (names_bad_activity book entry.command, BadActivity)
+    ∷ (is_unflyable air book entry, Unflyable)
     ∷ (is_identity_in_use book (next_identity book.requests entry.apid), IdentityInUse)
     ∷ (has_all_requests book || has_all_rows book, DeskFull)
     ∷ []
-tests_of stamp book (act.Withdraw n) =
+tests_of air stamp book (act.Withdraw n) =
     (is_unknown book n, UnknownRequest)
     ∷ (not (stands book n (Entered ∷ Approved ∷ [])), WrongPlace)
     ∷ (has_all_rows book, DeskFull)
     ∷ []
-tests_of stamp book (act.Approve n) =
+tests_of air stamp book (act.Approve n) =
     (is_unknown book n, UnknownRequest)
     ∷ (came_with_stack book n, UnknownStack)
     ∷ (not (stands book n (Entered ∷ [])), WrongPlace)
     ∷ approval_tests stamp.by (approval_at book n) ++ (has_all_rows book, DeskFull)
     ∷ []
-tests_of stamp book (act.Close n) =
+tests_of air stamp book (act.Close n) =
     (is_unknown book n, UnknownRequest)
     ∷ (not (stands book n (Confirmed ∷ Riding ∷ Scheduled ∷ Accepted ∷ Started ∷ Doubtful ∷ [])), WrongPlace)
     ∷ (has_all_rows book, DeskFull)
     ∷ []
-tests_of stamp book (act.ApproveStack name) =
+tests_of air stamp book (act.ApproveStack name) =
     (not (is_loaded book name), UnknownStack)
     ∷ approval_tests stamp.by (stack_approval_at book name) ++ (has_all_rows book, DeskFull)
     ∷ []
-tests_of stamp book (act.Begin name) = begin_tests book.log name
+tests_of air stamp book (act.Begin name) = begin_tests book.log name
 
 -- the tests of each question
 abbrev pub query_tests : Book → Query → List (Bool × Refusal)

@@ -1,8 +1,9 @@
 -- What an act on the book, or a load, answers.
-use Rattle.std.specs.Prelude.{◌≡◌, ◌⊎◌, ℕ, Bool, Some, None, Ok, Err, Result, IfOk, OnOk, List}
+use Rattle.std.specs.Prelude.{◌≡◌, ◌⊎◌, ℕ, Bool, Option, Some, None, Ok, Err, Result, IfOk, OnOk, List}
 use Rattle.tc_types.specs.declared.refusals.Refusal.{Refusal}
 use Rattle.tc_types.specs.declared.refusals.Refusal.TheVariants.{Memory}
 use Rattle.tc_types.specs.declared.acts.BookAct.{BookAct}
+use Rattle.tc_octets.specs.declared.profiles.Profile.{Profile}
 use Rattle.tc_stack.specs.declared.stacks.StackRow.{StackRow}
 use Rattle.tc_book.specs.declared.stamps.Stamp.{Stamp}
 use Rattle.tc_book.specs.declared.firsts.First.{First}
@@ -22,21 +23,21 @@ AnswersBy first tests becomes begins old new (Ok done) = (first_refusal tests �
 AnswersBy first tests becomes begins old new (Err refused) =
     ((first_refusal tests ≡ Some refused) ⊎ ((first_refusal tests ≡ None) × (refused ≡ Memory))) × (new ≡ old)
 
--- an act on the book
-abbrev pub Answers : {X : Type 0} → (X → First) → Book → Stamp → BookAct → Book → Result X Refusal → Type 0
-Answers first old stamp given new answer = AnswersBy first (tests_of stamp old given) (acted stamp given old) (first_of old given) old new answer
+-- an act on the book, of a desk in the air with this profile, or of a rehearsal
+abbrev pub Answers : {X : Type 0} → (X → First) → Option Profile → Book → Stamp → BookAct → Book → Result X Refusal → Type 0
+Answers first air old stamp given new answer = AnswersBy first (tests_of air stamp old given) (acted stamp given old) (first_of old given) old new answer
 
--- the load of a stack
-abbrev pub LoadAnswers : {X : Type 0} → (X → First) → Book → Stamp → List ℕ → List StackRow → Book → Result X Refusal → Type 0
-LoadAnswers first old stamp name rows new answer = AnswersBy first (load_tests stamp old name rows) (loaded stamp name rows old) (load_first old name rows) old new answer
+-- the load of a stack, so
+abbrev pub LoadAnswers : {X : Type 0} → (X → First) → Option Profile → Book → Stamp → List ℕ → List StackRow → Book → Result X Refusal → Type 0
+LoadAnswers first air old stamp name rows new answer = AnswersBy first (load_tests air stamp old name rows) (loaded stamp name rows old) (load_first old name rows) old new answer
 
 -- the load of a procedure
 abbrev pub ProcedureAnswers : {X : Type 0} → (X → First) → Book → Stamp → List ℕ → List Step → Book → Result X Refusal → Type 0
 ProcedureAnswers first old stamp name steps new answer = AnswersBy first (procedure_tests old name steps) (procedure_loaded stamp name steps old) (procedure_first name steps) old new answer
 
 -- What an act on the book is: it answers so, its draft has room for all that came to the book, and the book goes on from what it was.
-pub record IsActed {A : Type 0} (old : Book) (stamp : Stamp) (given : BookAct) (new : Book) (result : Result (Draft A) Refusal) : Type 0 where
-  pub answers : Answers (λ (draft : Draft A). draft.first) old stamp given new result
+pub record IsActed {A : Type 0} (air : Option Profile) (old : Book) (stamp : Stamp) (given : BookAct) (new : Book) (result : Result (Draft A) Refusal) : Type 0 where
+  pub answers : Answers (λ (draft : Draft A). draft.first) air old stamp given new result
   pub room : IfOk result (λ (draft : Draft A). HoldsRoom old new draft.moves draft.batch)
   pub goes_on : OnOk result (GoesOn old new)
 

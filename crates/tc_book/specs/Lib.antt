@@ -1,5 +1,6 @@
 pub mod Appends
 pub mod Book
+pub mod Newest
 pub mod Targets
 pub mod Waiting
 pub mod Stacks
@@ -8,6 +9,7 @@ pub mod Persons
 pub mod Good
 pub mod Conserved
 pub mod Records
+pub mod Unflyable
 pub mod Acts
 pub mod Loads
 pub mod Interlocks

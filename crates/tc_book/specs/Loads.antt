@@ -1,8 +1,8 @@
 -- The load of a stack: its tests, with the refusal that each gives, in order; what it does to the book; and the first line of its
 -- reply. All rows are entered, one after the other, or none.
-use Rattle.std.specs.Prelude.{ℕ, ◌+◌, ◌-◌, ◌%◌, ◌<◌, ◌≤◌, ◌==◌, Bool, false, ◌||◌, nat_le, nat_lt, Some, List, [], ◌∷◌, length, map, count_by}
+use Rattle.std.specs.Prelude.{ℕ, ◌+◌, ◌-◌, ◌%◌, ◌<◌, ◌≤◌, ◌==◌, Bool, false, ◌||◌, nat_le, nat_lt, Option, Some, List, [], ◌∷◌, length, map, count_by}
 use Rattle.tc_types.specs.declared.refusals.Refusal.{Refusal}
-use Rattle.tc_types.specs.declared.refusals.Refusal.TheVariants.{NameUsed, IdentityInUse, DeskFull}
+use Rattle.tc_types.specs.declared.refusals.Refusal.TheVariants.{NameUsed, IdentityInUse, DeskFull, Unflyable}
 use Rattle.tc_types.specs.declared.requests.Command.{Command}
 use Rattle.tc_types.specs.declared.requests.Command.TheVariants as command
 use Rattle.tc_types.specs.declared.requests.Form.{Form}
@@ -11,6 +11,7 @@ use Rattle.tc_types.specs.declared.requests.Origin.{Origin}
 use Rattle.tc_types.specs.declared.requests.Request.{Request}
 use Rattle.tc_types.specs.declared.rides.Ride.{Ride}
 use Rattle.tc_types.specs.Limits.{most_requests, most_stacks, most_stack_rows}
+use Rattle.tc_octets.specs.declared.profiles.Profile.{Profile}
 use Rattle.tc_stack.specs.declared.stacks.StackRow.{StackRow}
 use Rattle.tc_book.specs.declared.stamps.Stamp.{Stamp}
 use Rattle.tc_book.specs.declared.firsts.First.{First}
@@ -18,6 +19,7 @@ use Rattle.tc_book.specs.declared.firsts.First.TheVariants as first
 use Rattle.tc_book.specs.Book.{Book, next_identity, is_identity_in_use, has_all_rows, with_request}
 use Rattle.tc_book.specs.Places.{count_of}
 use Rattle.tc_book.specs.Stacks.{is_loaded, begins_stack}
+use Rattle.tc_book.specs.Unflyable.{has_unflyable_row}
 
 -- a line that a stack can have
 abbrev pub IsWithin : ℕ → Type 0
@@ -72,10 +74,11 @@ has_all_stacks book = nat_le most_stacks (count_by begins_stack book.requests)
 abbrev pub passes_requests : Book → List StackRow → Bool
 passes_requests book rows = nat_lt most_requests (length book.requests + length rows)
 
--- the tests, in order
-abbrev pub load_tests : Stamp → Book → List ℕ → List StackRow → List (Bool × Refusal)
-load_tests stamp book name rows =
-    (is_loaded book name, NameUsed)
+-- The tests, in order. A desk in the air has a profile.
+abbrev pub load_tests : Option Profile → Stamp → Book → List ℕ → List StackRow → List (Bool × Refusal)
+load_tests air stamp book name rows =
+    (has_unflyable_row air rows, Unflyable)
+    ∷ (is_loaded book name, NameUsed)
     ∷ (takes_identity_in_use stamp name (length book.requests + 1) 1 book rows, IdentityInUse)
     ∷ (has_all_stacks book || passes_requests book rows || has_all_rows book, DeskFull)
     ∷ []

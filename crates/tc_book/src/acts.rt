@@ -23,19 +23,22 @@ use crate::drafts::Draft;
 use crate::records::Records;
 use crate::stamps::Stamp;
 use std::alloc::Allocator;
+use tc_octets::Profile;
 use tc_types::{BookAct, Query, Refusal};
 
-/// Carries an act on the book out, and says what its reply begins with. The draft has room for what came to the book.
+/// Carries an act on the book out, and says what its reply begins with. The draft has room for what came to the book. `air` is the profile
+/// of a desk in the air.
 pub fn perform<A: Allocator + Copy + Drop>(
     records: &mut Records<A>,
     alloc: A,
+    air: &Option<Profile>,
     stamp: Stamp,
     act: BookAct,
 ) -> Result<Draft<A>, Refusal>
-    ensures { IsActed records.old.book stamp act records.new.book result }
+    ensures { IsActed air.now records.old.book stamp act records.new.book result }
 {
     match act {
-        BookAct::Enter(entry) => enter(records, alloc, stamp, entry),
+        BookAct::Enter(entry) => enter(records, alloc, air, stamp, entry),
         BookAct::Withdraw { request } => withdraw(records, alloc, stamp, request),
         BookAct::Approve { request } => approve(records, alloc, stamp, request),
         BookAct::Close { request } => close(records, alloc, stamp, request),

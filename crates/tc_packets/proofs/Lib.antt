@@ -1,4 +1,6 @@
 pub mod EntryLemmas
+pub mod BookFlightLemmas
+pub mod FlyableLemmas
 pub mod ReportLemmas
 pub mod ReportBackLemmas
 pub mod ReportLawLemmas

@@ -8,6 +8,7 @@ pub mod ReportReaders
 pub mod ReportLaws
 pub mod ApplicationData
 pub mod Flights
+pub mod BookFlights
 pub mod Telecommands
 pub mod TelecommandReaders
 pub mod TelecommandLaws

@@ -4,6 +4,7 @@
 #![tactic(auto)]
 
 mod application_data;
+mod book_flights;
 mod flights;
 mod identities;
 mod octet_fields;
@@ -21,6 +22,7 @@ mod told;
 mod uplinks;
 
 pub use application_data::{ApplicationData, MOST_DATA};
+pub use book_flights::{flight_of, form_fits, named_fits, what_fits_flies};
 pub use flights::{Flight, FlightActivities, FlightActivity, FlightTask, Plain, fits};
 pub use identities::{
     ActivityName, NAME, REQUEST_ID, flies, put_name, put_request_id, read_name, read_request_id,

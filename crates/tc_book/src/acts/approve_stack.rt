@@ -1,5 +1,6 @@
 //! The act `approvestack`: a stack is approved by a person who did not load it.
-ghost use Rattle.std.specs.Prelude.{◌≡◌};
+ghost use Rattle.std.specs.Prelude.{◌≡◌, Option};
+ghost use Rattle.tc_octets.specs.declared.profiles.Profile.{Profile as SomeProfile};
 ghost use Rattle.tc_types.specs.declared.acts.BookAct.TheVariants as book_act;
 ghost use Rattle.tc_book.specs.Answers.{IsActed};
 
@@ -16,7 +17,8 @@ pub fn approve_stack<A: Allocator + Copy + Drop>(
     stamp: Stamp,
     name: Name,
 ) -> Result<Draft<A>, Refusal>
-    ensures { IsActed records.old.book stamp (book_act.ApproveStack name) records.new.book result }
+    // a profile says nothing of it
+    ensures { (air : Option SomeProfile) → IsActed air records.old.book stamp (book_act.ApproveStack name) records.new.book result }
 {
     if !records.is_loaded(&name) {
         return Err(Refusal::UnknownStack);

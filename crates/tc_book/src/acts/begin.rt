@@ -1,5 +1,6 @@
 //! The act `begin`: an execution of a procedure is begun.
-ghost use Rattle.std.specs.Prelude.{◌≡◌};
+ghost use Rattle.std.specs.Prelude.{◌≡◌, Option};
+ghost use Rattle.tc_octets.specs.declared.profiles.Profile.{Profile as SomeProfile};
 ghost use Rattle.tc_types.specs.declared.acts.BookAct.TheVariants as book_act;
 ghost use Rattle.tc_book.specs.Answers.{IsActed};
 
@@ -17,7 +18,8 @@ pub fn begin<A: Allocator + Copy + Drop>(
     stamp: Stamp,
     name: Name,
 ) -> Result<Draft<A>, Refusal>
-    ensures { IsActed records.old.book stamp (book_act.Begin name) records.new.book result }
+    // a profile says nothing of it
+    ensures { (air : Option SomeProfile) → IsActed air records.old.book stamp (book_act.Begin name) records.new.book result }
 {
     if let Some(refusal) = records.begin_refusal(&name) {
         return Err(refusal);

@@ -1,5 +1,6 @@
 //! The act `close`: a request that has left the desk is closed by a person.
-ghost use Rattle.std.specs.Prelude.{◌≡◌};
+ghost use Rattle.std.specs.Prelude.{◌≡◌, Option};
+ghost use Rattle.tc_octets.specs.declared.profiles.Profile.{Profile as SomeProfile};
 ghost use Rattle.tc_types.specs.declared.acts.BookAct.TheVariants as book_act;
 ghost use Rattle.tc_book.specs.Answers.{IsActed};
 
@@ -27,7 +28,8 @@ pub fn close<A: Allocator + Copy + Drop>(
     stamp: Stamp,
     n: u32,
 ) -> Result<Draft<A>, Refusal>
-    ensures { IsActed records.old.book stamp (book_act.Close n) records.new.book result }
+    // a profile says nothing of it
+    ensures { (air : Option SomeProfile) → IsActed air records.old.book stamp (book_act.Close n) records.new.book result }
 {
     let Some(request) = records.number_of(n) else {
         return Err(Refusal::UnknownRequest);

@@ -22,9 +22,11 @@ ghost use Rattle.tc_book.specs.Targets.{HasGoodTargets};
 use crate::cargoes::behind_first;
 use crate::drafts::{Draft, Needs, make_room};
 use crate::firsts::First;
+use crate::flyable::has_unflyable_row;
 use crate::records::Records;
 use crate::stamps::Stamp;
 use std::alloc::Allocator;
+use tc_octets::Profile;
 use tc_stack::{Stack, StackRow};
 use tc_types::{
     Apid, Command, Entry, Form, MOST_INSERTED, MOST_REQUESTS, Name, Origin, Refusal, Ride, Rides,
@@ -202,21 +204,25 @@ fn enter_rows<A: Allocator + Copy + Drop>(
     }
 }
 
-/// Loads a stack under this name: each row is entered by the person who loads it.
+/// Loads a stack under this name: each row is entered by the person who loads it. `air` is the profile of a desk in the air.
 pub fn load<A: Allocator + Copy + Drop>(
     records: &mut Records<A>,
     alloc: A,
+    air: &Option<Profile>,
     stamp: Stamp,
     name: Name,
     stack: &Stack,
 ) -> Result<Draft<A>, Refusal>
     // one row after the other, each in a good book
-    ensures loaded { IsLoaded (LoadAnswers (λ draft. draft.first) records.old.book stamp name stack.now records.new.book result) stamp records.old.book records.new.book result }
+    ensures loaded { IsLoaded (LoadAnswers (λ draft. draft.first) air.now records.old.book stamp name stack.now records.new.book result) stamp records.old.book records.new.book result }
     // its lines are then requests, one after the other, each of which waits for the line that its row names; and so from then on
     ensures rows { OnOk result (AreRowsFrom (length records.old.book.requests + 1) stack.now records.new.book) }
     ensures stays { OnOk result ((later : Book) → GoesOn records.new.book later → AreRowsFrom (length records.old.book.requests + 1) stack.now later) }
 {
     let rows = stack.rows();
+    if has_unflyable_row(air, rows) {
+        return Err(Refusal::Unflyable);
+    }
     if records.is_loaded(&name) {
         return Err(Refusal::NameUsed);
     }

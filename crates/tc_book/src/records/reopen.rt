@@ -3,6 +3,7 @@ ghost use Rattle.std.specs.Prelude.{◌≡◌, IfOk};
 ghost use Rattle.tc_types.specs.Images.{rows_in};
 ghost use Rattle.tc_book.specs.Sound.{IsSound, Judges, book_of};
 
+use crate::newest::index_of;
 use crate::records::Records;
 use crate::reopening::known::KnownRequests;
 use crate::reopening::parts::{Lists, Start, open_approved, open_lists, open_start};
@@ -23,6 +24,7 @@ impl<A: Allocator + Copy + Drop> Records<A> {
             stack_approvals,
             log,
         } = open_lists(alloc, image)?;
+        let newest = index_of(alloc, &known.requests)?;
         let KnownRequests {
             requests,
             counts,
@@ -32,6 +34,7 @@ impl<A: Allocator + Copy + Drop> Records<A> {
             requests,
             history,
             counts,
+            newest,
             approvals,
             approved,
             stack_approvals,

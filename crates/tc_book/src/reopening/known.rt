@@ -17,14 +17,14 @@ ghost use Rattle.tc_book.specs.Targets.{IsGoodTarget, HasGoodTargets};
 use crate::acts::enter::is_bad_activity;
 use crate::counts::{count_one, next_identity, reserve_counts};
 use crate::pushes::push_within;
-use crate::reading::{is_same_identity, request_in};
+use crate::reading::{form_of, is_same_identity, request_in};
 use crate::reopening::joining::join_next;
 use crate::stacks::{has_name, push_name};
 use std::alloc::{AllocError, Allocator};
 use tc_proc::ReopenFault;
 use tc_types::limits::MOST_STACK_ROWS;
 use tc_types::{
-    Cargo, Command, Entry, Form, Identity, MOST_REQUESTS, Name, Origin, PlacedRequest, Request,
+    Cargo, Command, Entry, Identity, MOST_REQUESTS, Name, Origin, PlacedRequest, Request,
     is_same_name,
 };
 
@@ -51,14 +51,7 @@ fn is_next_identity(counts: &[u32], identity: &Identity) -> bool
 fn is_entered(request: &Request) -> bool
     ensures { IsTrue result ↔ IsEntry (form_of request.now) }
 {
-    let form = Form {
-        apid: request.body.identity.apid,
-        ack: request.body.ack,
-        critical: request.critical,
-        command: request.body.command,
-        outcome: request.body.outcome,
-    };
-    Entry::new(form).is_some()
+    Entry::new(form_of(request)).is_some()
 }
 
 /// Whether the request with this number is among these, and is one that a command may name.

@@ -11,7 +11,7 @@ use Rattle.tc_book.proofs.acts.approve.approve.Goals.{then-approve, else-approve
 use Rattle.tc_book.proofs.acts.approve.approve.Goals as goal
 
 pub returns : goal.returns
-returns g c =
+returns g c = λ air.
     let book : c.approve.new.self.book ≡ with_approval c.args.records.now.book c.in-Some.request c.args.stamp.by =
     c.approve.ensures.becomes.book ∙ ap (λ (b : Book). with_approval b c.in-Some.request c.args.stamp.by) c.make_room.ensures.same.book in
     let given = given_on c.args.records.now.book _ c.approve.new.self.book _ _ c.make_room.ensures.same.book c.approve.ensures.becomes.book in

@@ -12,7 +12,7 @@ use Rattle.tc_book.proofs.acts.approve_stack.approve_stack.Goals.{then-approve_s
 use Rattle.tc_book.proofs.acts.approve_stack.approve_stack.Goals as goal
 
 pub returns : goal.returns
-returns g c =
+returns g c = λ air.
     let given : c.approve_stack.new.self.book ≡ with_stack_approval c.args.records.now.book c.args.name c.args.stamp.by =
     c.approve_stack.ensures.becomes.book ∙ ap (λ (b : Book). with_stack_approval b c.args.name c.args.stamp.by) c.make_room.ensures.same.book in
     let room : HoldsRoom c.args.records.now.book c.if-approve_stack.records.book c.in_ok-draft.draft.moves c.in_ok-draft.draft.batch =

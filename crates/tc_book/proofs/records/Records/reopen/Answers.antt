@@ -25,6 +25,7 @@ invariant_of-result g c =
       c.in_ok-history.ensures.known.kept.counted,
       rw (c.in_ok-approvals.ensures.approvals) (rw c.deref.ensures.value at c.in_ok-approved.ensures.kept),
       c.in_ok-history.ensures.known.kept.stacks,
+      rw (c.deref-2.ensures.value) at c.in_ok-newest.ensures,
     )
 
 pub returns-clause-judged : goal.returns-clause-judged
